@@ -1,0 +1,90 @@
+-- What a direction adds to its ring: how the text of its blocks opens, how much of a message a block holds,
+-- and which block opens or continues a message.
+-- Assumes nothing.
+use Prim.Native.Nat.{ℕ, suc, _+_, _-_, _%_, _≤_, _<_}
+use mathlib.Core.Path.{_≡_}
+use mathlib.Core.Bool.{Bool, true, false, cond, not, _&&_, _||_}
+use lib.Dec.{leb, ltb, eqb}
+use Rattle.std.specs.declared.option.Option.{Option}
+use Rattle.std.specs.declared.option.Option.the-variants.{Some, None}
+use Rattle.directions.specs.declared.marks.Mark.{Mark}
+use Rattle.directions.specs.declared.marks.Mark.the-variants.{Plain, Numbered}
+use Rattle.directions.specs.declared.marks.Joining.{Joining}
+use Rattle.directions.specs.declared.marks.Joining.the-variants.{Opens, Continues, Neither}
+use Rattle.directions.specs.Rings.{RingRule}
+
+-- the text rule of a direction
+pub record TextRule : Type 0 where
+  -- how many characters of its own a block's text opens with
+  pub opening : ℕ
+  -- whether a character may stand at an index of that opening, after the character before it
+  pub allows : ℕ → ℕ → ℕ → Bool
+  -- how many message characters a block holds at most
+  pub room : ℕ
+  -- what a block says of its place: of an originator's message number n, the block with an index from 0
+  pub mark : ℕ → ℕ → ℕ → Mark
+  -- what a block does to the open part, told whether its identifier is the next after the last accepted
+  pub joining : Option Mark → Mark → Bool → Joining
+
+-- the laws of a text rule
+pub record Joins (t : TextRule) : Type 0 where
+  -- with no part open, a first block opens one
+  pub begins : (o n : ℕ) (next : Bool) → t .joining None (t .mark o n 0) next ≡ Opens
+  -- a message's following block, told that its identifier is the next, continues it
+  pub follows : (o n i : ℕ) → i < 15 → t .joining (Some (t .mark o n i)) (t .mark o n (suc i)) true ≡ Continues
+  -- another message's first block, told that its identifier is not the next, never continues an open part: it opens
+  pub parts : (part : Mark) (o n : ℕ) → t .joining (Some part) (t .mark o n 0) false ≡ Opens
+
+-- c stands from a to b
+abbrev pub within : ℕ → ℕ → ℕ → Bool
+within a b c = leb a c && leb c b
+
+-- a letter A–Z; a digit 0–9; either
+abbrev pub isLetter : ℕ → Bool
+isLetter c = within 65 90 c
+
+abbrev pub isDigit : ℕ → Bool
+isDigit c = within 48 57 c
+
+abbrev pub isLetterOrDigit : ℕ → Bool
+isLetterOrDigit c = isLetter c || isDigit c
+
+-- ten identifiers 0–9 down, twenty-six A–Z up
+abbrev pub downRing : RingRule
+downRing = record { first = 48; size = 10 }
+
+abbrev pub upRing : RingRule
+upRing = record { first = 65; size = 26 }
+
+-- the opening of a downlink's text: originator A–Z, number 01–99, block letter A–P, six letters or digits of flight
+abbrev pub downAllows : ℕ → ℕ → ℕ → Bool
+downAllows i before c =
+    cond (eqb i 0) (isLetter c)
+    (cond (eqb i 1) (isDigit c)
+    (cond (eqb i 2) (isDigit c && not (eqb before 48 && eqb c 48))
+    (cond (eqb i 3) (within 65 80 c) (isLetterOrDigit c))))
+
+-- message n bears the number ((n − 1) mod 99) + 1, and its block i the letter i after A
+abbrev pub downMark : ℕ → ℕ → ℕ → Mark
+downMark o n i = Numbered o ((n - 1) % 99 + 1) (65 + i)
+
+-- letter A opens; another continues where a part is open with its originator, its number and the letter before
+abbrev pub followsMark : Option Mark → ℕ → ℕ → ℕ → Joining
+followsMark None o n l = Neither
+followsMark (Some Plain) o n l = Neither
+followsMark (Some (Numbered o′ n′ l′)) o n l = cond (eqb o′ o && (eqb n′ n && eqb (l′ + 1) l)) Continues Neither
+
+abbrev pub downJoining : Option Mark → Mark → Bool → Joining
+downJoining part Plain next = Neither
+downJoining part (Numbered o n l) next = cond (eqb l 65) Opens (followsMark part o n l)
+
+-- an uplink continues where a part is open and its identifier is the next; otherwise it opens
+abbrev pub upJoining : Option Mark → Mark → Bool → Joining
+upJoining None block next = Opens
+upJoining (Some part) block next = cond next Continues Opens
+
+abbrev pub downText : TextRule
+downText = record { opening = 10; allows = downAllows; room = 210; mark = downMark; joining = downJoining }
+
+abbrev pub upText : TextRule
+upText = record { opening = 0; allows = λ _ _ _. false; room = 220; mark = λ _ _ _. Plain; joining = upJoining }
