@@ -35,6 +35,15 @@ pub record Joins (t : TextRule) : Type 0 where
   -- another message's first block, told that its identifier is not the next, never continues an open part: it opens
   pub parts : (part : Mark) (o n : ℕ) → t .joining (Some part) (t .mark o n 0) false ≡ Opens
 
+-- the laws of a text's opening
+pub record Opening-laws (t : TextRule) : Type 0 where
+  -- opening and message characters together are at most 220
+  pub full : t .opening + t .room ≡ 220
+  -- what is allowed is a seven-bit character
+  pub seven : (i before c : ℕ) → t .allows i before c ≡ true → c < 128
+  -- at each index of the opening some character is allowed after any other
+  pub fillable : (i : ℕ) → i < t .opening → (c : ℕ) × ((before : ℕ) → t .allows i before c ≡ true)
+
 -- c stands from a to b
 abbrev pub within : ℕ → ℕ → ℕ → Bool
 within a b c = leb a c && leb c b

@@ -1,7 +1,7 @@
 // A ring of identifiers, and a direction: a ring with a text rule added.
 ghost use mathlib.Core.Path.{_≡_};
 ghost use Rattle.directions.specs.Rings.{RingRule, Cyclic, member, next};
-ghost use Rattle.directions.specs.TextRules.{TextRule, Joins};
+ghost use Rattle.directions.specs.TextRules.{TextRule, Joins, Opening-laws};
 use crate::marks::Identifier;
 use crate::marks::Joining;
 use crate::marks::Mark;
@@ -47,6 +47,8 @@ pub trait Direction: Ring {
     ghost text: { TextRule };
 
     law joins: { Joins text };
+
+    law opens: { Opening-laws text };
 
     // How many characters of its own a block's text opens with.
     fn opening_length() -> usize
