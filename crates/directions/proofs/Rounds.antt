@@ -32,23 +32,23 @@ along r c (suc k) h le =
 
 pub facts : Ring-facts
 facts = record {
-    stays = λ r c h. let l : r .first ≤ c = low r c h in let u : c < r .first + r .size = high r c h in grind (arith, tells);
-    apart = λ r c d h k e.
-        let l : r .first ≤ c = low r c h in
-        let u : c < r .first + r .size = high r c h in
-        let l′ : r .first ≤ d = low r d k in
-        let u′ : d < r .first + r .size = high r d k in
-        grind (arith, tells);
-    away = λ r c k h p q e.
-        let l : r .first ≤ c = low r c h in
-        let u : c < r .first + r .size = high r c h in
-        let a : cond (ltb (c + k) (r .first + r .size)) (c + k) (c + k - r .size) ≡ c = sym (along r c k h (omega arith)) ∙ e in
-        grind (arith, tells);
-    round = λ r c h.
-        let l : r .first ≤ c = low r c h in
-        let u : c < r .first + r .size = high r c h in
-        along r c (r .size) h (omega arith) ∙ grind (arith, tells)
-    }
+  stays = λ r c h. let l : r .first ≤ c = low r c h in let u : c < r .first + r .size = high r c h in grind (arith, tells);
+  apart = λ r c d h k e.
+      let l : r .first ≤ c = low r c h in
+      let u : c < r .first + r .size = high r c h in
+      let l′ : r .first ≤ d = low r d k in
+      let u′ : d < r .first + r .size = high r d k in
+      grind (arith, tells);
+  away = λ r c k h p q e.
+      let l : r .first ≤ c = low r c h in
+      let u : c < r .first + r .size = high r c h in
+      let a : cond (ltb (c + k) (r .first + r .size)) (c + k) (c + k - r .size) ≡ c = sym (along r c k h (omega arith)) ∙ e in
+      grind (arith, tells);
+  round = λ r c h.
+      let l : r .first ≤ c = low r c h in
+      let u : c < r .first + r .size = high r c h in
+      along r c (r .size) h (omega arith) ∙ grind (arith, tells);
+}
 
 -- 2 to N − 1 steps on is not the next
 not-next : (r : RingRule) (c k : ℕ) → member r c ≡ true → 2 ≤ k → k < r .size → onward r k c ≡ next r c → ⊥
@@ -62,6 +62,6 @@ pub never-joined : Never-joined
 never-joined r t j last k h p q part o n e =
     let off : eqb (onward r k last) (next r last) ≡ false = ne-eqb _ _ (not-next r last k h p q) in
     let opened : t .joining (Some part) (t .mark o n 0) (eqb (onward r k last) (next r last)) ≡ Opens =
-        subst (λ (b : Bool). t .joining (Some part) (t .mark o n 0) b ≡ Opens) (sym off) (j .parts part o n) in
+    subst (λ (b : Bool). t .joining (Some part) (t .mark o n 0) b ≡ Opens) (sym off) (j .parts part o n) in
     let z : _≡_ {A = ℕ} 0 1 = cc in
     omega arith

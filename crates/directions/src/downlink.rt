@@ -50,16 +50,31 @@ pub impl Direction for Downlink as DownlinkDirection {
     }
 
     fn joining(part: Option<Mark>, block: Mark, _is_next: bool) -> Joining {
-        let Mark::Numbered { originator, number, letter } = block else {
+        let Mark::Numbered {
+            originator,
+            number,
+            letter,
+        } = block
+        else {
             return Joining::Neither;
         };
         if letter == b'A' {
             return Joining::Opens;
         }
-        let Some(Mark::Numbered { originator: last_originator, number: last_number, letter: last_letter }) = part else {
+        let Some(
+            Mark::Numbered {
+                originator: last_originator,
+                number: last_number,
+                letter: last_letter,
+            },
+        ) = part
+        else {
             return Joining::Neither;
         };
-        if last_originator == originator && last_number == number && (last_letter as u16) + 1 == (letter as u16) {
+        if last_originator == originator
+            && last_number == number
+            && (last_letter as u16) + 1 == (letter as u16)
+        {
             Joining::Continues
         } else {
             Joining::Neither

@@ -8,7 +8,11 @@ pub struct Identifier(pub u8);
 #[derive(Clone, Copy, PartialEq, Eq, Debug)]
 pub enum Mark {
     Plain,
-    Numbered { originator: u8, number: u8, letter: u8 },
+    Numbered {
+        originator: u8,
+        number: u8,
+        letter: u8,
+    },
 }
 
 // What a block does to the open part of a message.
