@@ -1,0 +1,16 @@
+-- The pair at i spells an octet.
+use mathlib.Core.Bool.{true, false}
+use mathlib.Core.Path.{_≡_}
+use Prim.Native.Nat.{ℕ}
+use borrow.Author.Count.{below-more}
+use Rattle.std.specs.Options.{isSome}
+use Rattle.std.specs.declared.option.Option.{Option}
+use Rattle.std.specs.declared.option.Option.the-variants.{Some, None}
+use Rattle.recordings.specs.Recorded.{Octet-of, Spells, Spelled-at}
+use Rattle.recordings.proofs.Strings.{octet-some}
+use Rattle.recordings.proofs.reading.is_spelled.Needs as need
+
+pub loop-i-again : need.loop-i-again
+loop-i-again c =
+    below-more (λ (k : ℕ). (o : ℕ) × Spelled-at (c .args .line .now) k o) (c .loop-i .i) (c .loop-i .inv)
+    (octet-some _ _ (c .octet-of .result) (c .octet-of .ensures) (c .if-is-none .ensures tt))

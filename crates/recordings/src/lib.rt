@@ -1,0 +1,8 @@
+// Recorded strings: input lines, what they are, and the line that answers each.
+mod heading;
+mod hex;
+mod reading;
+
+pub use heading::Heading;
+pub use heading::Recorded;
+pub use reading::read_line;
