@@ -1,3 +1,5 @@
 pub mod Strings
 pub mod Adding
 pub mod Texts
+pub mod Splitting
+pub mod Apart

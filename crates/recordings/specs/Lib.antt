@@ -1,3 +1,5 @@
 pub mod Recorded
 pub mod Printed
 pub mod Shown
+pub mod Split
+pub mod Laws
