@@ -3,3 +3,4 @@ pub mod Adding
 pub mod Texts
 pub mod Splitting
 pub mod Apart
+pub mod Back
