@@ -4,3 +4,4 @@ pub mod Texts
 pub mod Splitting
 pub mod Apart
 pub mod Back
+pub mod Answering

@@ -3,3 +3,4 @@ pub mod Printed
 pub mod Shown
 pub mod Split
 pub mod Laws
+pub mod Answered

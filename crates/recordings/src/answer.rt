@@ -4,6 +4,7 @@ ghost use mathlib.Core.Path.{_≡_};
 ghost use lib.ListN.{length};
 
 mod adding;
+mod answering;
 mod printing;
 
 // The octets of a line, the longest of which has room.
