@@ -40,7 +40,7 @@ fn is_checked(string: &[u8]) -> bool
 }
 
 // Refuses a string by its length, its parity, its delimiters or its check.
-pub fn test_frame(string: &[u8]) -> Result<(), BlockFault>
+pub(crate) fn test_frame(string: &[u8]) -> Result<(), BlockFault>
     ensures { λ r. ⌜ Framing (now (string .entry)) r ⌝ }
 {
     let length = string.len();

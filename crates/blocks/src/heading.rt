@@ -66,7 +66,7 @@ fn part<const N: usize>(string: &[u8], start: usize) -> &[u8; N]
 }
 
 // Reads the head. The first field that fails ends the reading.
-pub fn read_head<'a, D: Direction>(string: &'a [u8]) -> Result<HeadRead<'a>, BlockFault>
+pub(crate) fn read_head<'a, D: Direction>(string: &'a [u8]) -> Result<HeadRead<'a>, BlockFault>
     requires { ⌜ 17 ≤ length (now string) ⌝ }
     ensures { λ r. ⌜ Heading (record { own = D·Ring .ring; other = Other·Ring .ring; text = D·Direction .text }) (now (string .entry)) r ⌝ }
 {

@@ -42,7 +42,7 @@ fn rest_allows<D: Direction>(length: usize, place: usize, before: u8, character:
 }
 
 // The first place of the rest that breaks its rule.
-pub fn rest_fault<D: Direction>(string: &[u8], response: bool) -> Option<usize>
+pub(crate) fn rest_fault<D: Direction>(string: &[u8], response: bool) -> Option<usize>
     requires { ⌜ 17 ≤ length (now string) ⌝ }
     ensures { λ r. ⌜ Rest-tested (record { own = D·Ring .ring; other = Other·Ring .ring; text = D·Direction .text }) response (now (string .entry)) r ⌝ }
 {
