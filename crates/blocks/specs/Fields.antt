@@ -50,10 +50,22 @@ tailed last (c ∷ cs) = 2 ∷ ((c ∷ cs) ++ (suffix last ∷ []))
 abbrev pub responseLabel : List ℕ
 responseLabel = 95 ∷ 127 ∷ []
 
+-- label, suffix and text of a block; a response has the label 5F 7F hex and no text
+abbrev pub labelOf : Fields → List ℕ
+labelOf (response h) = responseLabel
+labelOf (message h label last text) = label
+
+abbrev pub lastOf : Fields → Bool
+lastOf (response h) = true
+lastOf (message h label last text) = last
+
+abbrev pub textOf : Fields → List ℕ
+textOf (response h) = []
+textOf (message h label last text) = text
+
 -- the characters from place 1 to length − 4
 abbrev pub laid : Fields → List ℕ
-laid (response h) = headed h responseLabel (3 ∷ [])
-laid (message h label last text) = headed h label (tailed last text)
+laid f = headed (headOf f) (labelOf f) (tailed (lastOf f) (textOf f))
 
 -- SOH, the characters with parity, their check (low octet first), DEL
 abbrev pub enclosed : List ℕ → List ℕ
@@ -68,16 +80,16 @@ abbrev pub named : Option Identifier → Option ℕ
 named None = None
 named (Some i) = Some (i .0)
 
--- the fields of a block whose parts are characters as f takes them from its octets
-abbrev pub fieldsBy : (ℕ → ℕ) → Block → Fields
-fieldsBy f (Response a k i) = response (record { address = map f (a .now); acknowledgment = named k; identifier = i .0 })
+-- the fields of a block, its parts as f takes them
+abbrev pub fieldsBy : (List ℕ → List ℕ) → Block → Fields
+fieldsBy f (Response a k i) = response (record { address = f (a .now); acknowledgment = named k; identifier = i .0 })
 fieldsBy f (Message a k l i e t) =
-    message (record { address = map f (a .now); acknowledgment = named k; identifier = i .0 }) (map f (l .now)) e (map f (t .now))
+    message (record { address = f (a .now); acknowledgment = named k; identifier = i .0 }) (f (l .now)) e (f (t .now))
 
 -- the fields of a block that was read: the parity of its parts is taken off
 abbrev pub fieldsRead : Block → Fields
-fieldsRead b = fieldsBy character b
+fieldsRead b = fieldsBy (map character) b
 
 -- the fields of a block that is to be written: its parts are characters
 abbrev pub fieldsGiven : Block → Fields
-fieldsGiven b = fieldsBy (λ c. c) b
+fieldsGiven b = fieldsBy (λ xs. xs) b

@@ -18,4 +18,4 @@ filled : (i before : ℕ) → downAllows i before (filler i) ≡ true
 filled i before = grind (arith, tells)
 
 pub down-opens : Opening-laws downText
-down-opens = record { full = refl; seven = seven; fillable = λ i h. (filler i, filled i) }
+down-opens = record { full = refl; seven = seven; fillable = λ i. (filler i, λ before h. filled i before) }

@@ -22,7 +22,8 @@ unfoldable pub onward : RingRule → ℕ → ℕ → ℕ
 onward r zero c = c
 onward r (suc k) c = next r (onward r k c)
 
--- what a ring of this profile keeps: two identifiers or more, all of them seven-bit characters
+-- what a ring of this profile keeps: two identifiers or more, all of them seven-bit characters past the control characters
 pub record Cyclic (r : RingRule) : Type 0 where
   pub many : 2 ≤ r .size
+  pub printable : 32 < r .first
   pub seven : r .first + r .size ≤ 128

@@ -42,7 +42,7 @@ pub record Opening-laws (t : TextRule) : Type 0 where
   -- what is allowed is a seven-bit character
   pub seven : (i before c : ℕ) → t .allows i before c ≡ true → c < 128
   -- at each index of the opening some character is allowed after any other
-  pub fillable : (i : ℕ) → i < t .opening → (c : ℕ) × ((before : ℕ) → t .allows i before c ≡ true)
+  pub fillable : (i : ℕ) → (c : ℕ) × ((before : ℕ) → i < t .opening → t .allows i before c ≡ true)
 
 -- c stands from a to b
 abbrev pub within : ℕ → ℕ → ℕ → Bool

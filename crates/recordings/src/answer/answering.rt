@@ -15,6 +15,13 @@ use crate::heading::Recorded;
 use crate::reading::read_line;
 use blocks::Block;
 use blocks::BlockFault;
+use blocks::read;
+use directions::Downlink;
+use directions::DownlinkDirection;
+use directions::DownlinkRing;
+use directions::Uplink;
+use directions::UplinkDirection;
+use directions::UplinkRing;
 
 impl AnswerLine {
     // Makes this the line that answers an input line; none stands for a line of over 1,024 octets.
@@ -45,7 +52,7 @@ fn read_string(heading: Heading, string: &[u8]) -> Result<Block<'_>, BlockFault>
     ensures { λ r. ⌜ Reads (wayOf heading) (now (string .entry)) r ⌝ }
 {
     match heading {
-        Heading::Down => Err(BlockFault::Length { place: 1 }),
-        Heading::Up => Err(BlockFault::Length { place: 1 }),
+        Heading::Down => read::<Downlink>(string),
+        Heading::Up => read::<Uplink>(string),
     }
 }

@@ -1,0 +1,9 @@
+pub mod Steps
+pub mod Fills
+pub mod Layouts
+pub mod Readings
+pub mod Shapes
+pub mod Sounds
+pub mod Strings
+pub mod Unlike
+pub mod Whole
