@@ -8,6 +8,7 @@ mod answering;
 mod printing;
 
 // The octets of a line, the longest of which has room.
+#[derive(Drop)]
 pub struct AnswerLine {
     octets: [u8; 512],
     used: usize,

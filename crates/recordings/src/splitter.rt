@@ -6,6 +6,7 @@ ghost use lib.ListN.{length};
 mod feeding;
 
 // The octets of the line so far; of one that is over 1,024 octets long, only that it is.
+#[derive(Drop)]
 pub struct Splitter {
     octets: [u8; 1024],
     used: usize,
