@@ -6,7 +6,12 @@ use std::io::Read;
 use std::io::Write;
 
 // Answers the line that the splitter has, at once.
-fn answer(rt: &LibcRuntime, splitter: &Splitter, count: u64, line: &mut AnswerLine) -> io::Result<()> {
+fn answer(
+    rt: &LibcRuntime,
+    splitter: &Splitter,
+    count: u64,
+    line: &mut AnswerLine,
+) -> io::Result<()> {
     line.answer(count, splitter.line());
     let mut out = rt.stdout();
     out.write_all(line.as_slice())?;

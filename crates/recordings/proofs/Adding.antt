@@ -22,8 +22,9 @@ use Rattle.recordings.specs.Shown.{shown, Added}
 pub added-then : (a b c : AnswerLine) (p q r : List ℕ) → p ++ q ≡ r → Added a b p → Added b c q → Added a c r
 added-then a b c p q r e first then =
     record {
-        text = then .text ∙ ap (λ (xs : List ℕ). xs ++ q) (first .text) ∙ append-assoc (shown a) p q ∙ ap (λ (xs : List ℕ). shown a ++ xs) e;
-        long = let l : length r ≡ length p + length q = ap length (sym e) ∙ length-append p q in omega (arith, first .long, then .long) }
+      text = then .text ∙ ap (λ (xs : List ℕ). xs ++ q) (first .text) ∙ append-assoc (shown a) p q ∙ ap (λ (xs : List ℕ). shown a ++ xs) e;
+      long = let l : length r ≡ length p + length q = ap length (sym e) ∙ length-append p q in omega (arith, first .long, then .long);
+    }
 
 -- nothing is added
 pub added-none : (a : AnswerLine) → Added a a []

@@ -49,13 +49,13 @@ pub answered :
     Answered line count (shown after)
 answered line string count h r before after t recorded reads test text =
     let set : shown after ≡ printed count (outcomeOf h r) =
-        subst (λ (b : Bool). Set-or-kept before after (printed count (outcomeOf h r)) b) (test ∙ read-fits h string r reads) text in
+    subst (λ (b : Bool). Set-or-kept before after (printed count (outcomeOf h r)) b) (test ∙ read-fits h string r reads) text in
     go r reads set where
-  go : (q : Result Block BlockFault) → Reads (wayOf h) string q → shown after ≡ printed count (outcomeOf h q) → Answered line count (shown after)
-  go (Ok b) read e =
-      record { outcome = outcomeOf h (Ok b); is = record { string = string; recorded = recorded; sound = read .sound; made = read .made }; text-is = e }
-  go (Err f) read e =
-      record { outcome = outcomeOf h (Err f); is = record { string = string; recorded = recorded; refusal = read }; text-is = e }
+      go : (q : Result Block BlockFault) → Reads (wayOf h) string q → shown after ≡ printed count (outcomeOf h q) → Answered line count (shown after)
+      go (Ok b) read e =
+          record { outcome = outcomeOf h (Ok b); is = record { string = string; recorded = recorded; sound = read .sound; made = read .made }; text-is = e }
+      go (Err f) read e =
+          record { outcome = outcomeOf h (Err f); is = record { string = string; recorded = recorded; refusal = read }; text-is = e }
 
 -- a line that is no string's
 pub answered-unread : (line : List ℕ) (count : ℕ) (text : List ℕ) → Unread line → text ≡ printed count unread → Answered line count text
@@ -82,5 +82,5 @@ answered-kept l p count text e a = subst (λ (x : List ℕ). Answered x count te
 pub answered-over : (p : List ℕ) (count : ℕ) (text : List ℕ) → _≡_ {A = Option (List ℕ)} None (told p) → text ≡ printed count unread → Answered p count text
 answered-over p count text e printed-is =
     answered-unread p count text
-        (λ h string is. let long = told-none p e in omega (arith, is .short, is .long))
-        printed-is
+    (λ h string is. let long = told-none p e in omega (arith, is .short, is .long))
+    printed-is

@@ -33,9 +33,9 @@ Figure c = (48 ≤ c) × (c < 58)
 pub figures : (n : ℕ) → n < 2 ^ 64 → All Figure (decimal n)
 figures n small =
     decimal-by-steps (λ (k : ℕ) (ds : List ℕ). All Figure ds)
-        (λ k h. ((omega arith, omega arith), tt))
-        (λ k ds h ih. let r : k % 10 < 10 = omega arith in all-push Figure ds (48 + k % 10) ih (omega arith, omega arith))
-        n small
+    (λ k h. ((omega arith, omega arith), tt))
+    (λ k ds h ih. let r : k % 10 < 10 = omega arith in all-push Figure ds (48 + k % 10) ih (omega arith, omega arith))
+    n small
 
 -- figures up to a comma are told apart from what follows
 pub comma-split :
@@ -84,12 +84,12 @@ escaped-back c X =
     (λ no10. ⊎-elim (λ e. subst (Escaped-back X) (sym e) return)
     (λ no13. ⊎-elim (λ e. subst (Escaped-back X) (sym e) slash)
     (λ no92.
-        let a = ne-eqb c 10 no10 in
-        let b = ne-eqb c 13 no13 in
-        let d = ne-eqb c 92 no92 in
-        let plain : escaped c ≡ c ∷ [] = rw (a, b, d) in
-        let back : (unescaped (c ∷ X) ≡ c) × (behind (c ∷ X) ≡ X) = (rw d, rw d) in
-        subst (λ (l : List ℕ). (unescaped (l ++ X) ≡ c) × (behind (l ++ X) ≡ X)) (sym plain) back)
+    let a = ne-eqb c 10 no10 in
+    let b = ne-eqb c 13 no13 in
+    let d = ne-eqb c 92 no92 in
+    let plain : escaped c ≡ c ∷ [] = rw (a, b, d) in
+    let back : (unescaped (c ∷ X) ≡ c) × (behind (c ∷ X) ≡ X) = (rw d, rw d) in
+    subst (λ (l : List ℕ). (unescaped (l ++ X) ≡ c) × (behind (l ++ X) ≡ X)) (sym plain) back)
     (cases-eq c 92)) (cases-eq c 13)) (cases-eq c 10)
 
 some-escaped : (c : ℕ) (X : List ℕ) → escaped c ++ X ≡ [] → ⊥

@@ -43,15 +43,17 @@ spells-apart x y o p s t =
 -- a line is the line of one string only
 pub line-apart : (h k : Heading) (s t line : List ℕ) → Line-of h s line → Line-of k t line → (h ≡ k) × (s ≡ t)
 line-apart h k s t line a b =
-    let long : length s ≡ length t = omega (arith, a .long, b .long) in
-    (letter-apart h k (sym (a .direction) ∙ b .direction),
-    ext-getD 0 s t long (λ i below. let also : i < length t = omega arith in spells-apart _ _ _ _ (a .digits i below) (b .digits i also)))
+    let long : length s ≡ length t = omega (arith, a .long, b .long) in (
+      letter-apart h k (sym (a .direction) ∙ b .direction),
+      ext-getD 0 s t long (λ i below. let also : i < length t = omega arith in spells-apart _ _ _ _ (a .digits i below) (b .digits i also)),
+    )
 
 pub lines-read-back : Lines-read-back
 lines-read-back line before after None (none, same) = (λ h string is. none h string is, λ un. refl)
-lines-read-back line before after (Some r) read =
-    (λ h string is. line-apart (r .heading) h (take (r .length) after) string line (read .string) is,
-    λ un. absurd (un (r .heading) (take (r .length) after) (read .string)))
+lines-read-back line before after (Some r) read = (
+  λ h string is. line-apart (r .heading) h (take (r .length) after) string line (read .string) is,
+  λ un. absurd (un (r .heading) (take (r .length) after) (read .string)),
+)
 
 -- the digits of a string, place by place
 hex-long : (capital : ℕ → Bool) (s : List ℕ) → length (hexOf capital s) ≡ 2 * length s
@@ -79,13 +81,14 @@ pub lines-stand : Lines-stand
 lines-stand h capital s short octets =
     let long = hex-long capital s in
     record {
-        short = short;
-        long = omega arith;
-        direction = refl;
-        comma = refl;
-        digits = λ i below.
-            let first : 2 + 2 * i ≡ suc (suc (2 * i)) = omega arith in
-            let second : 3 + 2 * i ≡ suc (suc (1 + 2 * i)) = omega arith in
-            subst (λ (n : ℕ). Spells (getD (lineOf h capital s) n 0) (getD (lineOf h capital s) (3 + 2 * i) 0) (getD s i 0)) (sym first)
-            (subst (λ (n : ℕ). Spells (getD (lineOf h capital s) (suc (suc (2 * i))) 0) (getD (lineOf h capital s) n 0) (getD s i 0)) (sym second)
-                (hex-spells capital s i below octets)) }
+      short = short;
+      long = omega arith;
+      direction = refl;
+      comma = refl;
+      digits = λ i below.
+          let first : 2 + 2 * i ≡ suc (suc (2 * i)) = omega arith in
+          let second : 3 + 2 * i ≡ suc (suc (1 + 2 * i)) = omega arith in
+          subst (λ (n : ℕ). Spells (getD (lineOf h capital s) n 0) (getD (lineOf h capital s) (3 + 2 * i) 0) (getD s i 0)) (sym first)
+          (subst (λ (n : ℕ). Spells (getD (lineOf h capital s) (suc (suc (2 * i))) 0) (getD (lineOf h capital s) n 0) (getD s i 0)) (sym second)
+          (hex-spells capital s i below octets));
+    }

@@ -34,8 +34,8 @@ pub joins-more :
     Joins s (take (i + 1) octets) u
 joins-more s t u octets i below first then p holds =
     subst (λ (q : List ℕ). Holds u q)
-        (append-assoc p (take i octets) (getD octets i 0 ∷ []) ∙ ap (λ (q : List ℕ). p ++ q) (sym (take-more octets i 0 below)))
-        (then (p ++ take i octets) (first p holds))
+    (append-assoc p (take i octets) (getD octets i 0 ∷ []) ∙ ap (λ (q : List ℕ). p ++ q) (sym (take-more octets i 0 below)))
+    (then (p ++ take i octets) (first p holds))
 
 -- an octet that is no line feed
 abbrev pub Plain : ℕ → Type 0
@@ -47,12 +47,13 @@ pub ended-at :
     Ended s octets t (i + 1)
 ended-at s t octets i below feed plain joins =
     record {
-        front = take i octets;
-        some = omega arith;
-        within = omega arith;
-        taken = take-more octets i 0 below ∙ ap (λ (x : ℕ). take i octets ++ (x ∷ [])) feed;
-        unbroken = plain;
-        joins = joins }
+      front = take i octets;
+      some = omega arith;
+      within = omega arith;
+      taken = take-more octets i 0 below ∙ ap (λ (x : ℕ). take i octets ++ (x ∷ [])) feed;
+      unbroken = plain;
+      joins = joins;
+    }
 
 pub lines-cut : Lines-cut
 lines-cut s said input (begun holds) =
@@ -60,31 +61,33 @@ lines-cut s said input (begun holds) =
 lines-cut s said input (fed octets run (unbroken, joins)) =
     let cut = lines-cut _ _ _ run in
     record {
-        lines = cut .lines;
-        last = cut .last ++ octets;
-        input-is = ap (λ (q : List ℕ). q ++ octets) (cut .input-is) ∙ append-assoc (joined closed (cut .lines)) (cut .last) octets;
-        unbroken = cut .unbroken;
-        going = all-append Plain (cut .last) octets (cut .going) unbroken;
-        said-is = cut .said-is;
-        holds = joins (cut .last) (cut .holds) }
+      lines = cut .lines;
+      last = cut .last ++ octets;
+      input-is = ap (λ (q : List ℕ). q ++ octets) (cut .input-is) ∙ append-assoc (joined closed (cut .lines)) (cut .last) octets;
+      unbroken = cut .unbroken;
+      going = all-append Plain (cut .last) octets (cut .going) unbroken;
+      said-is = cut .said-is;
+      holds = joins (cut .last) (cut .holds);
+    }
 lines-cut s said input (ended octets n a run done says fresh) =
     let cut = lines-cut _ _ _ run in
     let line = cut .last ++ done .front in
     let before = joined closed (cut .lines) in
     record {
-        lines = cut .lines ++ (line ∷ []);
-        last = [];
-        input-is =
-            ap (λ (q : List ℕ). q ++ take n octets) (cut .input-is)
-            ∙ ap (λ (q : List ℕ). (before ++ cut .last) ++ q) (done .taken)
-            ∙ append-assoc before (cut .last) (closed (done .front))
-            ∙ ap (λ (q : List ℕ). before ++ q) (sym (append-assoc (cut .last) (done .front) (10 ∷ [])))
-            ∙ joined-more closed [] (cut .lines) line
-            ∙ sym (append-nil (joined closed (cut .lines ++ (line ∷ []))));
-        unbroken = all-push Unbroken (cut .lines) line (cut .unbroken) (all-append Plain (cut .last) (done .front) (cut .going) (done .unbroken));
-        going = tt;
-        said-is =
-            ap (λ (q : List (Option (List ℕ))). q ++ (a ∷ [])) (cut .said-is)
-            ∙ ap (λ (x : Option (List ℕ)). map told (cut .lines) ++ (x ∷ [])) (says line (done .joins (cut .last) (cut .holds)))
-            ∙ sym (map-push told (cut .lines) line);
-        holds = fresh }
+      lines = cut .lines ++ (line ∷ []);
+      last = [];
+      input-is =
+          ap (λ (q : List ℕ). q ++ take n octets) (cut .input-is)
+          ∙ ap (λ (q : List ℕ). (before ++ cut .last) ++ q) (done .taken)
+          ∙ append-assoc before (cut .last) (closed (done .front))
+          ∙ ap (λ (q : List ℕ). before ++ q) (sym (append-assoc (cut .last) (done .front) (10 ∷ [])))
+          ∙ joined-more closed [] (cut .lines) line
+          ∙ sym (append-nil (joined closed (cut .lines ++ (line ∷ []))));
+      unbroken = all-push Unbroken (cut .lines) line (cut .unbroken) (all-append Plain (cut .last) (done .front) (cut .going) (done .unbroken));
+      going = tt;
+      said-is =
+          ap (λ (q : List (Option (List ℕ))). q ++ (a ∷ [])) (cut .said-is)
+          ∙ ap (λ (x : Option (List ℕ)). map told (cut .lines) ++ (x ∷ [])) (says line (done .joins (cut .last) (cut .holds)))
+          ∙ sym (map-push told (cut .lines) line);
+      holds = fresh;
+    }

@@ -49,7 +49,7 @@ response-line count h a k i = simp append-assoc
 pub message-line :
     (count : ℕ) (h : Heading) (a : RefT (List ℕ)) (k : Option Identifier) (l : RefT (List ℕ)) (i : Identifier) (e : Bool) (t : RefT (List ℕ)) →
     ((((((((opening count h ++ codes "0,message,") ++ heading (a .now) k) ++ map character (l .now)) ++ (44 ∷ i .0 ∷ 44 ∷ []))
-        ++ cond e (codes "last") (codes "more")) ++ (44 ∷ [])) ++ joined escaped (map character (t .now))) ++ (10 ∷ []))
+    ++ cond e (codes "last") (codes "more")) ++ (44 ∷ [])) ++ joined escaped (map character (t .now))) ++ (10 ∷ []))
     ≡ printed count (block h (fieldsRead (Message a k l i e t)))
 message-line count h a k l i e t = simp append-assoc
 

@@ -1,4 +1,5 @@
 pub mod Recorded
+pub mod Steps
 pub mod Printed
 pub mod Shown
 pub mod Split

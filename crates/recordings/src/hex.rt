@@ -1,5 +1,5 @@
 // Hex digits of either case.
-ghost use Rattle.recordings.specs.Recorded.{Value-of, Octet-of};
+ghost use Rattle.recordings.specs.Steps.{Value-of, Octet-of};
 
 // The value of a hex digit.
 fn value_of(digit: u8) -> Option<u8>

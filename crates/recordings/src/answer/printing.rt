@@ -29,7 +29,12 @@ impl AnswerLine {
     }
 
     // Makes this the line of the answer of reading; false, and unchanged, if its text has more than 220 octets.
-    pub fn print(&mut self, count: u64, heading: Heading, answer: Result<Block<'_>, BlockFault>) -> bool
+    pub fn print(
+        &mut self,
+        count: u64,
+        heading: Heading,
+        answer: Result<Block<'_>, BlockFault>,
+    ) -> bool
         ensures test { λ r. ⌜ r ≡ fitsLine (answer .entry) ⌝ }
         ensures text { λ r. ⌜ Set-or-kept (now (self .entry)) (now (self .exit)) (printed count (outcomeOf heading (answer .entry))) r ⌝ }
     {

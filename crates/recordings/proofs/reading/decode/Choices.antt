@@ -2,7 +2,7 @@
 use Prim.Native.Nat.{ℕ, _<_}
 use mathlib.Core.Path.{_≡_}
 use lib.ListN.{length, getD, drop}
-use Rattle.recordings.specs.Recorded.{Spelled-at}
+use Rattle.recordings.specs.Steps.{Spelled-at}
 use Rattle.recordings.proofs.reading.decode.Given as given
 
 abbrev pub Inv-loop-i : given.InvT-loop-i

@@ -1,12 +1,7 @@
 -- The pair at i spells an octet.
-use mathlib.Core.Bool.{true, false}
-use mathlib.Core.Path.{_≡_}
 use Prim.Native.Nat.{ℕ}
 use borrow.Author.Count.{below-more}
-use Rattle.std.specs.Options.{isSome}
-use Rattle.std.specs.declared.option.Option.{Option}
-use Rattle.std.specs.declared.option.Option.the-variants.{Some, None}
-use Rattle.recordings.specs.Recorded.{Octet-of, Spells, Spelled-at}
+use Rattle.recordings.specs.Steps.{Spelled-at}
 use Rattle.recordings.proofs.Strings.{octet-some}
 use Rattle.recordings.proofs.reading.is_spelled.Needs as need
 

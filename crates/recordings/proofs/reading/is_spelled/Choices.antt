@@ -1,6 +1,6 @@
 -- The octets so far are spelled.
 use Prim.Native.Nat.{ℕ, _<_}
-use Rattle.recordings.specs.Recorded.{Spelled-at}
+use Rattle.recordings.specs.Steps.{Spelled-at}
 use Rattle.recordings.proofs.reading.is_spelled.Given as given
 
 abbrev pub Inv-loop-i : given.InvT-loop-i

@@ -20,5 +20,5 @@ returns c =
     let least = opened .0 in
     let long : length (c .args .line .now) ≡ 2 + 2 * n = omega arith in
     decoded-all (c .args .line .now) (c .args .string .now) (c .decode .last .string)
-        (record { heading = c .in-Continue-heading .heading; length = n }) long (c .if-length-gt511 .left) (opened .1) (opened .2)
-        (c .decode .ensures .digits, c .decode .ensures .sized, c .decode .ensures .behind)
+    (record { heading = c .in-Continue-heading .heading; length = n }) long (c .if-length-gt511 .left) (opened .1) (opened .2)
+    (c .decode .ensures .digits, c .decode .ensures .sized, c .decode .ensures .behind)

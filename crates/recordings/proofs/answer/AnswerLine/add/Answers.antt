@@ -15,9 +15,10 @@ pub loop-octet-holds : need.loop-octet-holds
 loop-octet-holds c = (added-none (c .args .self .now), omega arith)
 
 pub loop-octet-again : need.loop-octet-again
-loop-octet-again c =
-    (added-then _ _ _ _ _ _ (plain-more (c .args .part .now) (c .loop-octet .octet-index) (c .loop-octet-test .taken)) (c .loop-octet .inv .0) (c .add-octet .ensures),
-    omega (arith, c .add-octet .ensures .long))
+loop-octet-again c = (
+  added-then _ _ _ _ _ _ (plain-more (c .args .part .now) (c .loop-octet .octet-index) (c .loop-octet-test .taken)) (c .loop-octet .inv .0) (c .add-octet .ensures),
+  omega (arith, c .add-octet .ensures .long),
+)
 
 pub returns : need.returns
 returns c =

@@ -11,9 +11,9 @@ use Rattle.recordings.proofs.answer.AnswerLine.answer.Needs as need
 pub returns-in-Some : need.returns-in-Some
 returns-in-Some c p e =
     answered-kept (c .in-Some .line .now) p (c .args .count) _
-        (sym (ap (λ (o : Option (RefT (List ℕ))). mapped (now {X = List ℕ}) o) (c .in-Some .is)) ∙ e) (c .answer-line .ensures)
+    (sym (ap (λ (o : Option (RefT (List ℕ))). mapped (now {X = List ℕ}) o) (c .in-Some .is)) ∙ e) (c .answer-line .ensures)
 
 pub returns-in-None : need.returns-in-None
 returns-in-None c p e =
     answered-over p (c .args .count) _
-        (sym (ap (λ (o : Option (RefT (List ℕ))). mapped (now {X = List ℕ}) o) (c .in-None .is)) ∙ e) (c .print-unread .ensures)
+    (sym (ap (λ (o : Option (RefT (List ℕ))). mapped (now {X = List ℕ}) o) (c .in-None .is)) ∙ e) (c .print-unread .ensures)

@@ -16,4 +16,4 @@ returns c =
     let whole : r .length - 0 ≡ r .length = omega arith in
     let recorded = subst (λ (n : ℕ). Line-of (r .heading) (take n (c .read-line .last .string)) (c .args .line .now)) (sym whole) (c .in-Some .ensures tt .string) in
     answered (c .args .line .now) (take (r .length - 0) (c .read-line .last .string)) (c .args .count) (r .heading) (c .read-string-found .result)
-        (c .args .self .now) (c .print .last .self) (c .print .result) recorded (c .read-string-found .ensures) (c .print .ensures .test) (c .print .ensures .text)
+    (c .args .self .now) (c .print .last .self) (c .print .result) recorded (c .read-string-found .ensures) (c .print .ensures .test) (c .print .ensures .text)

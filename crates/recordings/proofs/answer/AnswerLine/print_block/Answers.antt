@@ -21,13 +21,14 @@ returns-in-Response c =
     let k = c .in-Response .acknowledgment in
     let i = c .in-Response .identifier in
     record {
-        test = sym (ap fitsBlock (c .in-Response .is));
-        text =
-            onward ((o ++ codes "0,response,") ++ heading (a .now) k) (i .0 ∷ 10 ∷ []) (c .add-in-Response .ensures .text)
-                (onward (o ++ codes "0,response,") (heading (a .now) k) (c .add-head .ensures .added .text)
-                    (onward o (codes "0,response,") (c .add .ensures .text) (c .print-opening .ensures .text)))
-            ∙ response-line (c .args .count) (c .args .heading) a k i
-            ∙ ap (λ (b : Block). printed (c .args .count) (block (c .args .heading) (fieldsRead b))) (sym (c .in-Response .is)) }
+      test = sym (ap fitsBlock (c .in-Response .is));
+      text =
+          onward ((o ++ codes "0,response,") ++ heading (a .now) k) (i .0 ∷ 10 ∷ []) (c .add-in-Response .ensures .text)
+          (onward (o ++ codes "0,response,") (heading (a .now) k) (c .add-head .ensures .added .text)
+          (onward o (codes "0,response,") (c .add .ensures .text) (c .print-opening .ensures .text)))
+          ∙ response-line (c .args .count) (c .args .heading) a k i
+          ∙ ap (λ (b : Block). printed (c .args .count) (block (c .args .heading) (fieldsRead b))) (sym (c .in-Response .is));
+    }
 
 pub returns-else-text-gt220 : need.returns-else-text-gt220
 returns-else-text-gt220 c =
@@ -45,15 +46,16 @@ returns-else-text-gt220 c =
     let ended = identified ++ cond e (codes "last") (codes "more") in
     let texted = (ended ++ (44 ∷ [])) ++ joined escaped (map character (t .now)) in
     record {
-        test = sym (ap fitsBlock (c .in-Message .is) ∙ le-leb (length (t .now)) 220 (c .if-text-gt220 .left));
-        text =
-            onward texted (10 ∷ []) (c .add-octet-in-Message .ensures .text)
-                (onward (ended ++ (44 ∷ [])) (joined escaped (map character (t .now))) (c .add-text .ensures .added .text)
-                (onward ended (44 ∷ []) (c .add-octet .ensures .text)
-                (onward identified (cond e (codes "last") (codes "more")) (c .add-last .ensures .added .text)
-                (onward labelled (44 ∷ i .0 ∷ 44 ∷ []) (c .add-in-Message-2 .ensures .text)
-                (onward headed (map character (l .now)) (c .add-characters .ensures .added .text)
-                (onward named (heading (a .now) k) (c .add-head-in-Message .ensures .added .text)
-                (onward o (codes "0,message,") (c .add-in-Message .ensures .text) (c .print-opening-in-Message .ensures .text))))))))
-            ∙ message-line (c .args .count) (c .args .heading) a k l i e t
-            ∙ ap (λ (b : Block). printed (c .args .count) (block (c .args .heading) (fieldsRead b))) (sym (c .in-Message .is)) }
+      test = sym (ap fitsBlock (c .in-Message .is) ∙ le-leb (length (t .now)) 220 (c .if-text-gt220 .left));
+      text =
+          onward texted (10 ∷ []) (c .add-octet-in-Message .ensures .text)
+          (onward (ended ++ (44 ∷ [])) (joined escaped (map character (t .now))) (c .add-text .ensures .added .text)
+          (onward ended (44 ∷ []) (c .add-octet .ensures .text)
+          (onward identified (cond e (codes "last") (codes "more")) (c .add-last .ensures .added .text)
+          (onward labelled (44 ∷ i .0 ∷ 44 ∷ []) (c .add-in-Message-2 .ensures .text)
+          (onward headed (map character (l .now)) (c .add-characters .ensures .added .text)
+          (onward named (heading (a .now) k) (c .add-head-in-Message .ensures .added .text)
+          (onward o (codes "0,message,") (c .add-in-Message .ensures .text) (c .print-opening-in-Message .ensures .text))))))))
+          ∙ message-line (c .args .count) (c .args .heading) a k l i e t
+          ∙ ap (λ (b : Block). printed (c .args .count) (block (c .args .heading) (fieldsRead b))) (sym (c .in-Message .is));
+    }

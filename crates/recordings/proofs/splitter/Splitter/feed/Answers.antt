@@ -11,14 +11,15 @@ use Rattle.recordings.proofs.splitter.Splitter.feed.Needs as need
 pub returns-then-octet-eq10 : need.returns-then-octet-eq10
 returns-then-octet-eq10 c =
     ended-at (c .args .self .now) (c .loop-i .self) (c .args .octets .now) (c .loop-i .i) (c .loop-i-test .taken) (c .if-octet-eq10 .taken)
-        (c .loop-i .inv .0) (c .loop-i .inv .1)
+    (c .loop-i .inv .0) (c .loop-i .inv .1)
 
 pub loop-i-again : need.loop-i-again
-loop-i-again c =
-    (all-more Plain (c .args .octets .now) (c .loop-i .i) 0 (c .loop-i-test .taken) (c .loop-i .inv .0) (c .if-octet-eq10 .left),
-    joins-more (c .args .self .now) (c .loop-i .self) (c .keep .last .self) (c .args .octets .now) (c .loop-i .i) (c .loop-i-test .taken) (c .loop-i .inv .1) (c .keep .ensures))
+loop-i-again c = (
+  all-more Plain (c .args .octets .now) (c .loop-i .i) 0 (c .loop-i-test .taken) (c .loop-i .inv .0) (c .if-octet-eq10 .left),
+  joins-more (c .args .self .now) (c .loop-i .self) (c .keep .last .self) (c .args .octets .now) (c .loop-i .i) (c .loop-i-test .taken) (c .loop-i .inv .1) (c .keep .ensures),
+)
 
 pub returns : need.returns
 returns c =
     subst (λ (q : List ℕ). Unbroken q × Joins (c .args .self .now) q (c .loop-i .self))
-        (take-all (c .loop-i .i) (c .args .octets .now) (c .loop-i-test .left)) (c .loop-i .inv)
+    (take-all (c .loop-i .i) (c .args .octets .now) (c .loop-i-test .left)) (c .loop-i .inv)
