@@ -5,3 +5,4 @@ pub mod Splitting
 pub mod Apart
 pub mod Back
 pub mod Answering
+pub mod Told

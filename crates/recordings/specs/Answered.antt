@@ -1,6 +1,6 @@
 -- What an input line is, and the line that answers it.
 -- Assumes nothing.
-use Prim.Native.Nat.{ℕ}
+use Prim.Native.Nat.{ℕ, _^_, _<_}
 use mathlib.Core.Path.{_≡_}
 use mathlib.Core.List.{List}
 use Rattle.std.specs.declared.option.Option.{Option}
@@ -36,3 +36,9 @@ pub record Answered (line : List ℕ) (count : ℕ) (text : List ℕ) : Type 0 w
   pub outcome : Outcome
   pub is : Is line outcome
   pub text-is : text ≡ printed count outcome
+
+-- what an input line turns out to be, and its count, can be told from its answer alone
+abbrev pub Answers-apart : Type 0
+Answers-apart =
+    (k l : List ℕ) (m n : ℕ) (text : List ℕ) → m < 2 ^ 64 → n < 2 ^ 64 → (a : Answered k m text) (b : Answered l n text) →
+    (m ≡ n) × (a .outcome ≡ b .outcome)
