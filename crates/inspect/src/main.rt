@@ -1,5 +1,5 @@
 // Tells what recorded strings are: reads lines from standard input, and answers each with one line.
-use recordings::AnswerLine;
+use answers::AnswerLine;
 use recordings::Splitter;
 use std::io;
 use std::io::Read;

@@ -17,7 +17,14 @@ use Rattle.recordings.specs.declared.heading.Heading.{Heading}
 use Rattle.recordings.specs.declared.heading.Recorded.{Recorded}
 use Rattle.recordings.specs.Recorded.{letter, hexDigit, Digit, Spells, Line-of, Unread, Read, Reading}
 use Rattle.recordings.specs.Laws.{hexOf, lineOf, Lines-stand, Read-as, Lines-read-back}
-use Rattle.recordings.proofs.Apart.{letter-apart}
+use Rattle.recordings.specs.declared.heading.Heading.the-variants.{Down, Up}
+
+-- the two letters differ
+pub letter-apart : (h k : Heading) → letter h ≡ letter k → h ≡ k
+letter-apart Down Down e = refl
+letter-apart Down Up e = absurd (omega arith)
+letter-apart Up Down e = absurd (omega arith)
+letter-apart Up Up e = refl
 
 -- digits of different values differ
 hexDigit-apart : (b c : Bool) (v w : ℕ) → v < 16 → w < 16 → hexDigit b v ≡ hexDigit c w → v ≡ w

@@ -1,12 +1,10 @@
-// Recorded strings: input lines, what they are, and the line that answers each.
-mod answer;
+// Recorded strings: cutting an input into lines, and reading a line.
 mod heading;
 mod hex;
 mod laws;
 mod reading;
 mod splitter;
 
-pub use answer::AnswerLine;
 pub use heading::Heading;
 pub use heading::Recorded;
 pub use laws::lines_stand;

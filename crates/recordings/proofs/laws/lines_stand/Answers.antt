@@ -1,9 +1,7 @@
 -- Each law is shown in a file of its own.
 use Rattle.recordings.proofs.Back.{lines-stand, lines-read-back}
-use Rattle.recordings.proofs.Apart.{printed-apart}
-use Rattle.recordings.proofs.Told.{answers-apart}
 use Rattle.recordings.proofs.Splitting.{lines-cut}
 use Rattle.recordings.proofs.laws.lines_stand.Needs as need
 
 pub returns : need.returns
-returns c = record { stand = lines-stand; back = lines-read-back; apart = printed-apart; told = answers-apart; cut = lines-cut }
+returns c = record { stand = lines-stand; back = lines-read-back; cut = lines-cut }

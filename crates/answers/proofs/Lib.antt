@@ -1,0 +1,5 @@
+pub mod Adding
+pub mod Texts
+pub mod Apart
+pub mod Answering
+pub mod Told

@@ -1,0 +1,4 @@
+pub mod Printed
+pub mod Shown
+pub mod Laws
+pub mod Answered
