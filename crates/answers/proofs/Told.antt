@@ -23,11 +23,11 @@ rest-within : (w : Way) (s : List ℕ) (k : ℕ) → Rest-refused w s k → k �
 rest-within w s k r =
     ⊎-elim
     (λ past.
-        let (t, like, same) = r .first .some (length s) (omega (arith, r .framed .long .least)) past in
-        let long = like .long in
-        let alike : t ≡ s =
-            sym (take-all (suc (length s)) t (omega arith)) ∙ same ∙ take-all (suc (length s)) s (omega arith) in
-        absurd (r .first .none t like (ap (λ (x : List ℕ). take (suc k) x) alike)))
+    let (t, like, same) = r .first .some (length s) (omega (arith, r .framed .long .least)) past in
+    let long = like .long in
+    let alike : t ≡ s =
+    sym (take-all (suc (length s)) t (omega arith)) ∙ same ∙ take-all (suc (length s)) s (omega arith) in
+    absurd (r .first .none t like (ap (λ (x : List ℕ). take (suc k) x) alike)))
     (λ within. within)
     (cases-lt (length s) k)
 
@@ -70,4 +70,4 @@ is-possible line unread is = tt
 pub answers-apart : Answers-apart
 answers-apart k l m n text small little a b =
     printed-apart m n (a .outcome) (b .outcome) small little (is-possible k (a .outcome) (a .is)) (is-possible l (b .outcome) (b .is))
-        (sym (a .text-is) ∙ b .text-is)
+    (sym (a .text-is) ∙ b .text-is)

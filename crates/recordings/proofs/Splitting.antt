@@ -41,19 +41,9 @@ joins-more s t u octets i below first then p holds =
 abbrev pub Plain : ℕ → Type 0
 Plain c = c ≡ 10 → ⊥
 
--- a piece up to its first line feed ends the line
-pub ended-at :
-    (s t : Splitter) (octets : List ℕ) (i : ℕ) → i < length octets → getD octets i 0 ≡ 10 → Unbroken (take i octets) → Joins s (take i octets) t →
-    Ended s octets t (i + 1)
-ended-at s t octets i below feed plain joins =
-    record {
-      front = take i octets;
-      some = omega arith;
-      within = omega arith;
-      taken = take-more octets i 0 below ∙ ap (λ (x : ℕ). take i octets ++ (x ∷ [])) feed;
-      unbroken = plain;
-      joins = joins;
-    }
+-- a piece up to its first line feed is closed by it
+pub closed-more : (octets : List ℕ) (i : ℕ) → i < length octets → getD octets i 0 ≡ 10 → take (i + 1) octets ≡ closed (take i octets)
+closed-more octets i below feed = take-more octets i 0 below ∙ ap (λ (x : ℕ). take i octets ++ (x ∷ [])) feed
 
 pub lines-cut : Lines-cut
 lines-cut s said input (begun holds) =

@@ -10,9 +10,6 @@ ghost use Rattle.recordings.specs.Split.{told};
 ghost use Rattle.answers.specs.Shown.{shown};
 ghost use Rattle.answers.specs.Answered.{Answered};
 use crate::answer::AnswerLine;
-use recordings::Heading;
-use recordings::Recorded;
-use recordings::read_line;
 use blocks::Block;
 use blocks::BlockFault;
 use blocks::read;
@@ -22,6 +19,9 @@ use directions::DownlinkRing;
 use directions::Uplink;
 use directions::UplinkDirection;
 use directions::UplinkRing;
+use recordings::Heading;
+use recordings::Recorded;
+use recordings::read_line;
 
 impl AnswerLine {
     // Makes this the line that answers an input line; none stands for a line of over 1,024 octets.

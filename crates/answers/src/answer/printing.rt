@@ -13,10 +13,10 @@ ghost use Rattle.recordings.specs.Recorded.{letter};
 ghost use Rattle.answers.specs.Printed.{printed, block, refused, unread, acknowledged, outcomeOf, fitsBlock, fitsLine};
 ghost use Rattle.answers.specs.Shown.{shown, Added, Set-or-kept};
 use crate::answer::AnswerLine;
-use recordings::Heading;
 use blocks::Block;
 use blocks::BlockFault;
 use directions::Identifier;
+use recordings::Heading;
 
 impl AnswerLine {
     // Makes this the line of an input line that is no string's.
@@ -25,7 +25,7 @@ impl AnswerLine {
     {
         self.clear();
         self.add_number(count);
-        self.add(b",-,0,unread\n");
+        self.add_unread();
     }
 
     // Makes this the line of the answer of reading; false, and unchanged, if its text has more than 220 octets.
@@ -108,6 +108,14 @@ impl AnswerLine {
         self.clear();
         self.add_number(count);
         self.add(&[b',', letter_of(heading), b',']);
+    }
+
+    // Adds what stands behind the count of a line that is unread.
+    fn add_unread(&mut self)
+        requires { ⌜ now self .used + 12 ≤ 512 ⌝ }
+        ensures { λ _. ⌜ Added (now (self .entry)) (now (self .exit)) (codes ",-,0,unread\n") ⌝ }
+    {
+        self.add(b",-,0,unread\n");
     }
 
     // Adds whether a block is its message's last.

@@ -8,6 +8,6 @@ use Rattle.answers.proofs.answer.AnswerLine.print_unread.Needs as need
 
 pub returns : need.returns
 returns c =
-    onward (decimal (c .args .count)) (codes ",-,0,unread\n") (c .add .ensures .text)
+    onward (decimal (c .args .count)) (codes ",-,0,unread\n") (c .add-unread .ensures .text)
     (onward [] (decimal (c .args .count)) (c .add-number .ensures .added .text) (c .clear .ensures .text))
     ∙ unread-line (c .args .count)
