@@ -39,16 +39,16 @@ pub record Shape (w : Way) (t : List ℕ) : Type 0 where
   pub shaped : Shaped w n g
   pub is : t ≡ stringOf g n
 
+-- the string of fields is that of the characters that they lay out
+pub written-is : (f : Fields) → written f ≡ stringOf (charsOf f) (sizeOf f)
+written-is f =
+    let e : length (laid f) ≡ length (laid f) + 4 - 4 = omega arith in
+    ap (λ (xs : List ℕ). enclosed (map octet xs)) (elements (laid f) ∙ ap (λ (k : ℕ). map (charsOf f) (counting 1 k)) e)
+
 pub legal-shape : (w : Way) → Lawful w → (t : List ℕ) → Legal w t → Shape w t
 legal-shape w l t h =
     let f = h .fields in
-    let e : length (laid f) ≡ length (laid f) + 4 - 4 = omega arith in
-    record {
-      g = charsOf f;
-      n = sizeOf f;
-      shaped = laid-out w l f (h .sound) .shaped;
-      is = h .made ∙ ap (λ (xs : List ℕ). enclosed (map octet xs)) (elements (laid f) ∙ ap (λ (k : ℕ). map (charsOf f) (counting 1 k)) e);
-    }
+    record { g = charsOf f; n = sizeOf f; shaped = laid-out w l f (h .sound) .shaped; is = h .made ∙ written-is f }
 
 member-seven : (r : RingRule) → Cyclic r → (c : ℕ) → member r c ≡ true → c < 128
 member-seven r l c h =

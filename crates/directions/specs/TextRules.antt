@@ -1,7 +1,9 @@
 -- What a direction adds to its ring: how the text of its blocks opens, how much of a message a block holds,
 -- and which block opens or continues a message.
 -- Assumes nothing.
-use Prim.Native.Nat.{ℕ, suc, _+_, _-_, _%_, _≤_, _<_}
+use Prim.Native.Nat.{ℕ, suc, _+_, _-_, _*_, _/_, _%_, _≤_, _<_}
+use mathlib.Core.List.{List, [], _∷_, _++_}
+use lib.ListN.{length, getD}
 use mathlib.Core.Path.{_≡_}
 use mathlib.Core.Bool.{Bool, true, false, cond, not, _&&_, _||_}
 use lib.Dec.{leb, ltb, eqb}
@@ -13,6 +15,20 @@ use Rattle.directions.specs.declared.marks.Joining.{Joining}
 use Rattle.directions.specs.declared.marks.Joining.the-variants.{Opens, Continues, Neither}
 use Rattle.directions.specs.Rings.{RingRule}
 
+-- c stands from a to b
+abbrev pub within : ℕ → ℕ → ℕ → Bool
+within a b c = leb a c && leb c b
+
+-- a letter A–Z; a digit 0–9; either
+abbrev pub isLetter : ℕ → Bool
+isLetter c = within 65 90 c
+
+abbrev pub isDigit : ℕ → Bool
+isDigit c = within 48 57 c
+
+abbrev pub isLetterOrDigit : ℕ → Bool
+isLetterOrDigit c = isLetter c || isDigit c
+
 -- the text rule of a direction
 pub record TextRule : Type 0 where
   -- how many characters of its own a block's text opens with
@@ -23,6 +39,10 @@ pub record TextRule : Type 0 where
   pub room : ℕ
   -- what a block says of its place: of an originator's message number n, the block with an index from 0
   pub mark : ℕ → ℕ → ℕ → Mark
+  -- the opening of that block's text, given the flight as well
+  pub opener : ℕ → List ℕ → ℕ → ℕ → List ℕ
+  -- what the characters of a text say of its block's place
+  pub reads : List ℕ → Mark
   -- what a block does to the open part, told whether its identifier is the next after the last accepted
   pub joining : Option Mark → Mark → Bool → Joining
 
@@ -44,19 +64,15 @@ pub record Opening-laws (t : TextRule) : Type 0 where
   -- at each index of the opening some character is allowed after any other
   pub fillable : (i : ℕ) → (c : ℕ) × ((before : ℕ) → i < t .opening → t .allows i before c ≡ true)
 
--- c stands from a to b
-abbrev pub within : ℕ → ℕ → ℕ → Bool
-within a b c = leb a c && leb c b
-
--- a letter A–Z; a digit 0–9; either
-abbrev pub isLetter : ℕ → Bool
-isLetter c = within 65 90 c
-
-abbrev pub isDigit : ℕ → Bool
-isDigit c = within 48 57 c
-
-abbrev pub isLetterOrDigit : ℕ → Bool
-isLetterOrDigit c = isLetter c || isDigit c
+-- the laws of the opening that a sender writes, of 16 blocks at most
+pub record Opener-laws (t : TextRule) : Type 0 where
+  -- it has its length
+  pub long : (o : ℕ) (flight : List ℕ) (n i : ℕ) → length flight ≡ 6 → length (t .opener o flight n i) ≡ t .opening
+  -- it is allowed, where originator and flight are
+  pub allowed : (o : ℕ) (flight : List ℕ) (n i : ℕ) → isLetter o ≡ true → length flight ≡ 6 → ((k : ℕ) → k < 6 → isLetterOrDigit (getD flight k 0) ≡ true) → i < 16 →
+      (j : ℕ) → j < t .opening → t .allows j (getD (2 ∷ t .opener o flight n i) j 0) (getD (t .opener o flight n i) j 0) ≡ true
+  -- it says the block's place, whatever follows
+  pub says : (o : ℕ) (flight : List ℕ) (n i : ℕ) (rest : List ℕ) → length flight ≡ 6 → i < 16 → t .reads (t .opener o flight n i ++ rest) ≡ t .mark o n i
 
 -- ten identifiers 0–9 down, twenty-six A–Z up
 abbrev pub downRing : RingRule
@@ -77,6 +93,13 @@ downAllows i before c =
 abbrev pub downMark : ℕ → ℕ → ℕ → Mark
 downMark o n i = Numbered o ((n - 1) % 99 + 1) (65 + i)
 
+-- the number in decimal digits, the letter, the flight
+abbrev pub downOpener : ℕ → List ℕ → ℕ → ℕ → List ℕ
+downOpener o flight n i = o ∷ (48 + ((n - 1) % 99 + 1) / 10) ∷ (48 + ((n - 1) % 99 + 1) % 10) ∷ (65 + i % 16) ∷ flight
+
+abbrev pub downReads : List ℕ → Mark
+downReads cs = cond (ltb 3 (length cs)) (Numbered (getD cs 0 0) ((getD cs 1 0 - 48) * 10 + (getD cs 2 0 - 48)) (getD cs 3 0)) Plain
+
 -- letter A opens; another continues where a part is open with its originator, its number and the letter before
 abbrev pub followsMark : Option Mark → ℕ → ℕ → ℕ → Joining
 followsMark None o n l = Neither
@@ -93,7 +116,7 @@ upJoining None block next = Opens
 upJoining (Some part) block next = cond next Continues Opens
 
 abbrev pub downText : TextRule
-downText = record { opening = 10; allows = downAllows; room = 210; mark = downMark; joining = downJoining }
+downText = record { opening = 10; allows = downAllows; room = 210; mark = downMark; opener = downOpener; reads = downReads; joining = downJoining }
 
 abbrev pub upText : TextRule
-upText = record { opening = 0; allows = λ _ _ _. false; room = 220; mark = λ _ _ _. Plain; joining = upJoining }
+upText = record { opening = 0; allows = λ _ _ _. false; room = 220; mark = λ _ _ _. Plain; opener = λ _ _ _ _. []; reads = λ _. Plain; joining = upJoining }

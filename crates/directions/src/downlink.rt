@@ -1,4 +1,6 @@
 // From the aircraft to the ground.
+ghost use mathlib.Core.Path.{_≡_};
+ghost use Prim.Native.Nat.{_-_, _%_, _<_};
 ghost use Rattle.directions.specs.TextRules.{downRing, downText};
 use crate::classes::is_digit;
 use crate::classes::is_letter;
@@ -13,6 +15,14 @@ use crate::uplink::UplinkRing;
 
 #[derive(Clone, Copy)]
 pub struct Downlink;
+
+// The value of a digit, given with its parity.
+fn digit(octet: u8) -> u16
+    ensures value { λ r. ⌜ r ≡ octet % 128 - 48 ⌝ }
+    ensures small { λ r. ⌜ r < 80 ⌝ }
+{
+    (octet % 128).saturating_sub(b'0') as u16
+}
 
 pub impl Ring for Downlink as DownlinkRing {
     ghost ring = { downRing };
@@ -42,6 +52,34 @@ pub impl Direction for Downlink as DownlinkDirection {
             2 => is_digit(character) && !(before == b'0' && character == b'0'),
             3 => b'A' <= character && character <= b'P',
             _ => is_letter_or_digit(character),
+        }
+    }
+
+    fn opening(originator: u8, flight: &[u8; 6], number: u64, index: u8) -> [u8; 10] {
+        let shown = (number.saturating_sub(1) % 99 + 1) as u8;
+        let [a, b, c, d, e, f] = *flight;
+        [
+            originator,
+            b'0' + shown / 10,
+            b'0' + shown % 10,
+            b'A' + index % 16,
+            a,
+            b,
+            c,
+            d,
+            e,
+            f,
+        ]
+    }
+
+    fn mark(octets: &[u8]) -> Mark {
+        if octets.len() < 4 {
+            return Mark::Plain;
+        }
+        Mark::Numbered {
+            originator: octets[0] % 128,
+            number: digit(octets[1]) * 10 + digit(octets[2]),
+            letter: octets[3] % 128,
         }
     }
 

@@ -10,7 +10,7 @@ pub enum Mark {
     Plain,
     Numbered {
         originator: u8,
-        number: u8,
+        number: u16,
         letter: u8,
     },
 }

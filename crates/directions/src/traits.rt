@@ -1,7 +1,10 @@
 // A ring of identifiers, and a direction: a ring with a text rule added.
 ghost use mathlib.Core.Path.{_≡_};
 ghost use Rattle.directions.specs.Rings.{RingRule, Cyclic, member, next};
-ghost use Rattle.directions.specs.TextRules.{TextRule, Joins, Opening-laws};
+ghost use Rattle.directions.specs.TextRules.{TextRule, Joins, Opening-laws, Opener-laws};
+ghost use mathlib.Core.List.{map};
+ghost use Prim.Native.Nat.{_%_};
+ghost use lib.ListN.{take};
 use crate::marks::Identifier;
 use crate::marks::Joining;
 use crate::marks::Mark;
@@ -50,6 +53,8 @@ pub trait Direction: Ring {
 
     law opens: { Opening-laws text };
 
+    law writes: { Opener-laws text };
+
     // How many characters of its own a block's text opens with.
     fn opening_length() -> usize
         ensures { λ r. ⌜ r ≡ text .opening ⌝ };
@@ -57,6 +62,14 @@ pub trait Direction: Ring {
     // Whether a character may stand at an index of that opening, after the character before it.
     fn opening_allows(index: usize, before: u8, character: u8) -> bool
         ensures { λ r. ⌜ r ≡ text .allows index before character ⌝ };
+
+    // The opening of the text of an originator's message, by the message's number and the block's index: its first characters.
+    fn opening(originator: u8, flight: &[u8; 6], number: u64, index: u8) -> [u8; 10]
+        ensures { λ r. ⌜ take (text .opening) r ≡ text .opener originator (now (flight .entry)) number index ⌝ };
+
+    // What a text, of octets, says of its block's place.
+    fn mark(octets: &[u8]) -> Mark
+        ensures { λ r. ⌜ r ≡ text .reads (map (λ o. o % 128) (now (octets .entry))) ⌝ };
 
     // How many message characters a block holds at most.
     fn room() -> usize

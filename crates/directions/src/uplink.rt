@@ -36,6 +36,14 @@ pub impl Direction for Uplink as UplinkDirection {
         false
     }
 
+    fn opening(_originator: u8, _flight: &[u8; 6], _number: u64, _index: u8) -> [u8; 10] {
+        [0; 10]
+    }
+
+    fn mark(_octets: &[u8]) -> Mark {
+        Mark::Plain
+    }
+
     fn room() -> usize {
         220
     }
