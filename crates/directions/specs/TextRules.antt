@@ -51,7 +51,7 @@ pub record Joins (t : TextRule) : Type 0 where
   -- with no part open, a first block opens one
   pub begins : (o n : ℕ) (next : Bool) → t .joining None (t .mark o n 0) next ≡ Opens
   -- a message's following block, told that its identifier is the next, continues it
-  pub follows : (o n i : ℕ) → i < 15 → t .joining (Some (t .mark o n i)) (t .mark o n (suc i)) true ≡ Continues
+  pub follows : (o n i : ℕ) → t .joining (Some (t .mark o n i)) (t .mark o n (suc i)) true ≡ Continues
   -- another message's first block, told that its identifier is not the next, never continues an open part: it opens
   pub parts : (part : Mark) (o n : ℕ) → t .joining (Some part) (t .mark o n 0) false ≡ Opens
 

@@ -1,0 +1,9 @@
+pub mod Directions
+pub mod Real
+pub mod Senders
+pub mod Receivers
+pub mod Links
+pub mod Truth
+pub mod Rounds
+pub mod DeliveryWitness
+pub mod RoundWitness

@@ -1,0 +1,6 @@
+mod Packing
+mod Laws
+mod Holding
+mod Laying
+mod Serving
+mod Functions

@@ -1,0 +1,10 @@
+use borrow.Author.Needs.{needs}
+use Rattle.std.specs.Of.Vec.{vec-items}
+use Rattle.lines.specs.Layouts.{spelled}
+use Rattle.lines.proofs.Packing.{count-of}
+use Rattle.lines.proofs.character.CharacterLinePath.waiting.Needs as need
+
+pub returns : need.returns
+returns c =
+    let strings = count-of spelled (c .args .self .now .store .count) (vec-items (c .args .self .now .store .octets)) in
+    search needs

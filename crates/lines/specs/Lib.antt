@@ -1,0 +1,5 @@
+pub mod Layout
+pub mod Layouts
+pub mod Line
+pub mod Stored
+pub mod Outcome

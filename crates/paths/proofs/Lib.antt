@@ -1,0 +1,4 @@
+mod Coming
+mod Adding
+pub mod Outcomes
+pub mod Using
