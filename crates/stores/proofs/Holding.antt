@@ -6,13 +6,22 @@ use native.Mathlib.Omega.{arith}
 use lib.ListN.{length, getD, set, take, drop}
 use Rattle.std.specs.Of.Vec.{vec-items, vec-len}
 use Rattle.std.specs.Options.{mapped}
+use Rattle.std.specs.Slices.{found}
 use Rattle.std.specs.Finite.{nth}
-use Rattle.std.specs.declared.option.Option.{Option}
+use Rattle.std.proofs.shelf.Maps.{nth-past}
 use Rattle.std.specs.declared.option.Option.the-variants.{Some, None}
 use Rattle.stores.specs.declared.text.Text.{Text}
 use Rattle.stores.specs.declared.store.MessageStore.{MessageStore}
 use Rattle.stores.specs.Texts.{octetsOf}
 use Rattle.stores.specs.Held.{Stored, stored, paired, held, recordAt, textAt, withRecord, without}
+
+-- A text has at most 3,520 octets.
+pub octets-most : (t : Text) → length (octetsOf t) ≤ 3520
+unfolding octetsOf
+octets-most t =
+    let n = t .octets .ok .0 in
+    let w = t .within in
+    omega arith
 
 module _ {R : Type 0} where
   pub paired-length : (rs : List R) (ts : List Text) → length rs ≡ length ts → length (paired rs ts) ≡ length rs
@@ -74,6 +83,12 @@ module _ {R : Type 0} where
   none-held [] e = refl
   none-held (m ∷ ms) e = absurd (omega arith)
 
+  pub paired-most : (rs : List R) (ts : List Text) (i : ℕ) → found (textAt i (paired rs ts)) (λ t. length t ≤ 3520)
+  paired-most [] ts i = tt
+  paired-most (r ∷ rs) [] i = tt
+  paired-most (r ∷ rs) (t ∷ ts) zero = octets-most t
+  paired-most (r ∷ rs) (t ∷ ts) (suc i) = paired-most rs ts i
+
   -- There are as many texts as records.
   pub evenly : (s : MessageStore R) → length (vec-items (s .records)) ≡ length (vec-items (s .texts))
   evenly s =
@@ -88,6 +103,12 @@ module _ {R : Type 0} where
   held-length s =
       paired-length (vec-items (s .records)) (vec-items (s .texts)) (evenly s) ∙ sym (s .records .ok .0)
 
+  -- Past the last message there is nothing of one.
+  pub past : {X : Type 0} (f : Stored R → X) (s : MessageStore R) (i : ℕ) → vec-len (s .records) ≤ i → None ≡ mapped f (nth (held s) i)
+  past f s i l =
+      let n = held-length s in
+      sym (ap (mapped f) (nth-past (held s) i (omega arith)))
+
   -- There are at most four messages.
   pub held-most : (s : MessageStore R) → length (held s) ≤ 4
   held-most s =
@@ -96,10 +117,7 @@ module _ {R : Type 0} where
       let f = s .four in
       omega arith
 
--- A text has at most 3,520 octets.
-pub octets-most : (t : Text) → length (octetsOf t) ≤ 3520
-unfolding octetsOf
-octets-most t =
-    let n = t .octets .ok .0 in
-    let w = t .within in
-    omega arith
+  -- Each text in a store has at most 3,520 octets.
+  pub texts-most : (s : MessageStore R) (i : ℕ) → found (textAt i (held s)) (λ t. length t ≤ 3520)
+  unfolding held
+  texts-most s i = paired-most (vec-items (s .records)) (vec-items (s .texts)) i

@@ -1,13 +1,14 @@
 // What is done to a store of messages.
 ghost use mathlib.Core.Path.{_≡_};
 ghost use mathlib.Core.List.{[]};
-ghost use Prim.Native.Nat.{_+_, _≤_, _<_};
+ghost use Prim.Native.Nat.{_≤_, _<_};
 ghost use lib.ListN.{length};
 ghost use denote.Ref.{now as behind};
 ghost use Rattle.std.specs.Vec.{made};
-ghost use Rattle.std.specs.Of.Vec.{vec-len, vec-cap, vec-items};
+ghost use Rattle.std.specs.Of.Vec.{vec-len, vec-cap};
 ghost use Rattle.std.specs.Options.{mapped};
-ghost use Rattle.stores.specs.Held.{Stored, held, recordAt, textAt, withRecord, without, Pushes, Pops};
+ghost use Rattle.std.specs.Slices.{found};
+ghost use Rattle.stores.specs.Held.{held, recordAt, textAt, withRecord, without, Pushes, Pops};
 use super::MessageStore;
 use crate::text::Text;
 use std::alloc::AllocError;
@@ -51,7 +52,8 @@ impl<R: Copy> MessageStore<R> {
 
     // The text of a message, by its place from the oldest.
     pub fn text(&self, index: usize) -> Option<&[u8]>
-        ensures { λ r. ⌜ mapped behind r ≡ textAt index (held (now (self .entry))) ⌝ }
+        ensures value { λ r. ⌜ mapped behind r ≡ textAt index (held (now (self .entry))) ⌝ }
+        ensures within { λ r. ⌜ found r (λ t. length (behind t) ≤ 3520) ⌝ }
     {
         if index < self.texts.len() {
             Some(self.texts[index].as_slice())
@@ -113,9 +115,8 @@ fn reserve_texts(heap: Global) -> Result<Vec<Text>, AllocError>
     ensures { λ r. ⌜ made r (λ v. (vec-len v ≡ 4) × (4 ≤ vec-cap v)) ⌝ }
 {
     let mut texts = Vec::with_capacity(heap, CELLS)?;
-    texts.push_reserved(Text::reserve(heap)?);
-    texts.push_reserved(Text::reserve(heap)?);
-    texts.push_reserved(Text::reserve(heap)?);
-    texts.push_reserved(Text::reserve(heap)?);
+    for _i in 0..CELLS {
+        texts.push_reserved(Text::reserve(heap)?);
+    }
     Ok(texts)
 }

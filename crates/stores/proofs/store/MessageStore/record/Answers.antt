@@ -1,11 +1,9 @@
-use mathlib.Core.Path.{_≡_, sym, ap}
+use mathlib.Core.Path.{_≡_}
 use native.Mathlib.Omega.{arith}
 use lib.ListN.{getD}
 use Rattle.std.specs.Of.Vec.{vec-items}
-use Rattle.std.specs.Options.{mapped}
-use Rattle.std.proofs.shelf.Maps.{nth-past}
 use Rattle.stores.specs.Held.{held, Stored}
-use Rattle.stores.proofs.Holding.{held-length, evenly, paired-record}
+use Rattle.stores.proofs.Holding.{past, evenly, paired-record}
 use Rattle.stores.proofs.store.MessageStore.record.Needs as need
 
 pub returns-then-index-len : need.returns-then-index-len
@@ -19,6 +17,4 @@ returns-then-index-len g c =
 
 pub returns-else-index-len : need.returns-else-index-len
 returns-else-index-len g c =
-    let s = c .args .self .now in
-    let n = held-length s in
-    sym (ap (mapped (λ (m : Stored (g .R .Denot)). m .«record»)) (nth-past (held s) (c .args .index) (omega arith)))
+    past (λ (m : Stored (g .R .Denot)). m .«record») (c .args .self .now) (c .args .index) (omega arith)
