@@ -1,0 +1,9 @@
+pub mod Faults
+pub mod Model
+pub mod Setting
+pub mod Sending
+pub mod Finding
+pub mod Hearing
+pub mod Calls
+pub mod Ends
+pub mod Steps

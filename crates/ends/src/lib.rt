@@ -1,0 +1,37 @@
+// An end of a link: it sends messages block by block, hears blocks, and joins them to messages.
+mod blocks_out;
+mod checked;
+mod collects;
+mod counts;
+mod end;
+mod fault;
+mod finding;
+mod hearing;
+mod legal;
+mod memory;
+mod numbers;
+mod outcomes;
+mod plans;
+mod settings;
+mod stages;
+mod submits;
+mod ticks;
+mod types;
+mod waits;
+mod withdraws;
+
+pub use end::End;
+pub use fault::LinkFault;
+pub use fault::LinkFaultFromAir;
+pub use fault::LinkFaultFromBlock;
+pub use memory::Memory;
+pub use types::Cell;
+pub use types::Clock;
+pub use types::Heard;
+pub use types::Label;
+pub use types::Outcome;
+pub use types::PartHead;
+pub use types::Plan;
+pub use types::Settings;
+pub use types::Stage;
+pub use types::Ticked;

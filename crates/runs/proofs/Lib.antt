@@ -1,0 +1,15 @@
+pub mod Rings
+pub mod Spoils
+pub mod Cuts
+pub mod Cells
+pub mod Senders
+pub mod Courses
+pub mod Counting
+pub mod Acks
+pub mod Firsts
+pub mod Sends
+pub mod Says
+pub mod Receivers
+pub mod Takes
+pub mod Withdrawals
+pub mod Places

@@ -1,0 +1,5 @@
+pub mod Links
+pub mod History
+pub mod Truth
+pub mod Rounds
+pub mod Strings
