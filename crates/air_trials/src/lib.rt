@@ -1,4 +1,6 @@
 // Trials of air paths.
+#![tactic(auto)]
+
 mod layers;
 #[cfg(test)]
 mod tests;

@@ -1,4 +1,6 @@
 // The line that answers an input line.
+#![tactic(auto)]
+
 mod answer;
 mod laws;
 

@@ -1,4 +1,6 @@
 // Blocks: what a legal block is, and reading one from a string of octets.
+#![tactic(auto)]
+
 mod block;
 mod characters;
 mod fault;

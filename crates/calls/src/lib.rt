@@ -1,4 +1,6 @@
 // The calls of a link: what they are given, what they answer, why they refuse.
+#![tactic(auto)]
+
 mod call;
 mod fault;
 mod numbers;

@@ -1,4 +1,6 @@
 // An end of a link: it sends messages block by block, hears blocks, and joins them to messages.
+#![tactic(auto)]
+
 mod blocks_out;
 mod checked;
 mod collects;

@@ -1,4 +1,6 @@
 // Tells what recorded strings are: reads lines from standard input, and answers each with one line.
+#![tactic(auto)]
+
 use answers::AnswerLine;
 use recordings::Splitter;
 use std::io;

@@ -1,5 +1,7 @@
 // The law of a block link, over any two directions: truth of outcomes, order of messages, exact progress.
 // Definitions and lemmas alone: each function carries a theorem and returns 0.
+#![tactic(auto)]
+
 ghost use Rattle.std.specs.Prelude.{◌≡◌};
 ghost use Rattle.law.specs.DeliveryWitness.{DeliveriesHappen};
 ghost use Rattle.law.specs.Real.{RealDirections};

@@ -1,4 +1,6 @@
 // Lines: air paths over fixed memory.
+#![tactic(auto)]
+
 mod character;
 mod frame;
 mod memory;

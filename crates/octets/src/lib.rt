@@ -1,4 +1,6 @@
 // Octets with odd parity, and the 16-bit check of a string of octets.
+#![tactic(auto)]
+
 mod checks;
 mod parity;
 mod remainders;

@@ -1,4 +1,6 @@
 // One-way air paths: what a path means, what it refuses, and paths that stand on other paths.
+#![tactic(auto)]
+
 mod emptying;
 mod fade;
 mod fates;

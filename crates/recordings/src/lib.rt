@@ -1,4 +1,6 @@
 // Recorded strings: cutting an input into lines, and reading a line.
+#![tactic(auto)]
+
 mod heading;
 mod hex;
 mod laws;

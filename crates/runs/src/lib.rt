@@ -1,4 +1,6 @@
 // The law of a link of two ends, over any two paths: definitions and lemmas alone. Each function carries a theorem and returns 0.
+#![tactic(auto)]
+
 ghost use Rattle.std.specs.Prelude.{◌≡◌};
 ghost use Rattle.runs.specs.Strings.{CutsComeBack, SpoiledSaysNothing};
 

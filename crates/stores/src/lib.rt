@@ -1,4 +1,6 @@
 // The fixed memory of an end of a data link: texts, and messages in order of arrival.
+#![tactic(auto)]
+
 mod store;
 mod text;
 

@@ -1,4 +1,6 @@
 // Trials of the octets, the check, reading and writing by values from outside: what each has to answer was worked out from the layout alone.
+#![tactic(auto)]
+
 #[cfg(test)]
 mod cases_down;
 #[cfg(test)]
