@@ -62,7 +62,7 @@ fn part<const N: usize>(string: &[u8], start: usize) -> &[u8; N]
 // Reads the head. The first field that fails ends the reading.
 pub(crate) fn read_head<'a, D: Direction>(string: &'a [u8]) -> Result<HeadRead<'a>, BlockFault>
     requires { 17 ≤ length string.now }
-    ensures { Heading (record { own = D.Ring.ring; other = Other-as-Ring.ring; text = D.Direction.text }) string.now result }
+    ensures { Heading (record { own = D.Ring.ring; other = D.Other.Ring.ring; text = D.Direction.text }) string.now result }
 {
     let MODE = character_of(string[1]) else {
         return Err(BlockFault::Head { place: 1 });

@@ -40,7 +40,7 @@ fn block_text<O: Direction>(text: &[u8], index: u8) -> &[u8]
 
 // Writes a block and puts its string on a path; where its fields are not sound, nothing is put.
 fn send<D: Direction, P: AirPath>(block: &Block<'_>, path: &mut P) -> Result<(), BlockFault>
-    ensures { Sent P.AirPath.puts (record { own = D.Ring.ring; other = Other-as-Ring.ring; text = D.Direction.text }) (fields_given block.now) result (P.AirPath.sees path.old) (P.AirPath.sees path.new) }
+    ensures { Sent P.AirPath.puts (record { own = D.Ring.ring; other = D.Other.Ring.ring; text = D.Direction.text }) (fields_given block.now) result (P.AirPath.sees path.old) (P.AirPath.sees path.new) }
 {
     let mut buffer = [0u8; 238];
     let n = write::<D>(block, &mut buffer)?;

@@ -59,7 +59,7 @@ fn label_fault(block: &Block<'_>) -> Option<usize>
 
 // The first place of the head whose field is not as its rule asks.
 fn head_fault<D: Direction>(block: &Block<'_>) -> Option<usize>
-    ensures tested { HeadTested (record { own = D.Ring.ring; other = Other-as-Ring.ring; text = D.Direction.text }) (fields_given block.now) result }
+    ensures tested { HeadTested (record { own = D.Ring.ring; other = D.Other.Ring.ring; text = D.Direction.text }) (fields_given block.now) result }
     ensures long { is_some result ≡ false → Lengths (fields_given block.now) }
 {
     if let Some(index) = address_fault(block.address()) {
@@ -87,7 +87,7 @@ fn is_text_length<D: Direction>(last: bool, count: usize) -> bool
 
 // The index of the first text character that may not stand there.
 fn character_fault<D: Direction>(text: &[u8]) -> Option<usize>
-    ensures { CharactersTested (record { own = D.Ring.ring; other = Other-as-Ring.ring; text = D.Direction.text }) text.now result }
+    ensures { CharactersTested (record { own = D.Ring.ring; other = D.Other.Ring.ring; text = D.Direction.text }) text.now result }
 {
     let mut before = STX;
     for (index, character) in text.iter().enumerate() {
@@ -101,7 +101,7 @@ fn character_fault<D: Direction>(text: &[u8]) -> Option<usize>
 
 // The first place of the rest that the text of a message would take and may not.
 fn text_fault<D: Direction>(block: &Block<'_>) -> Option<usize>
-    ensures { TextTested (record { own = D.Ring.ring; other = Other-as-Ring.ring; text = D.Direction.text }) (fields_given block.now) result }
+    ensures { TextTested (record { own = D.Ring.ring; other = D.Other.Ring.ring; text = D.Direction.text }) (fields_given block.now) result }
 {
     let Block::Message { last, text, .. } = block else {
         return None;
@@ -117,7 +117,7 @@ fn text_fault<D: Direction>(block: &Block<'_>) -> Option<usize>
 
 // Refuses bad fields at the place that they would take.
 pub(crate) fn test_fields<D: Direction>(block: &Block<'_>) -> Result<(), BlockFault>
-    ensures { FieldsTested (record { own = D.Ring.ring; other = Other-as-Ring.ring; text = D.Direction.text }) (fields_given block.now) result }
+    ensures { FieldsTested (record { own = D.Ring.ring; other = D.Other.Ring.ring; text = D.Direction.text }) (fields_given block.now) result }
 {
     if let Some(place) = head_fault::<D>(block) {
         return Err(BlockFault::Head { place });

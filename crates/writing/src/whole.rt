@@ -10,7 +10,7 @@ use directions::Direction;
 // Writes a block of the direction D, whose parts are characters, at the start of a buffer of 238 octets or more, and answers its length.
 // A refusal leaves the buffer as it was.
 pub fn write<D: Direction>(block: &Block<'_>, buffer: &mut [u8]) -> Result<usize, BlockFault>
-    ensures { Writes (record { own = D.Ring.ring; other = Other-as-Ring.ring; text = D.Direction.text }) (fields_given block.now) buffer.old result buffer.new }
+    ensures { Writes (record { own = D.Ring.ring; other = D.Other.Ring.ring; text = D.Direction.text }) (fields_given block.now) buffer.old result buffer.new }
 {
     if buffer.len() < 238 {
         return Err(BlockFault::Buffer);

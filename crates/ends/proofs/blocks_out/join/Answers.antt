@@ -5,6 +5,6 @@ use Rattle.ends.proofs.blocks_out.join.Goals as goal
 pub returns : goal.returns
 returns c =
     record {
-      value = joined c.args.first.now c.args.second.now _ _ _ _ c.copy-from-slice.ensures.after c.copy-from-slice-2.ensures.after;
+      value = joined c.args.first.now c.args.second.now _ _ _ _ c.copy_from_slice.ensures.after c.copy_from_slice-2.ensures.after;
       end = refl;
     }

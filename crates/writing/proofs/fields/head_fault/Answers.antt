@@ -9,7 +9,7 @@ use Rattle.writing.proofs.fields.head_fault.Goals as goal
 use Rattle.writing.proofs.fields.head_fault.Given as given
 
 abbrev way : given.Over → Way
-way g = record { own = g.D.Ring.ring; other = g.Other.Ring.ring; text = g.D.Direction.text }
+way g = record { own = g.D.Ring.ring; other = g.D.Other.Ring.ring; text = g.D.Direction.text }
 
 tested : (xs ys : List ℕ) (o : Option ℕ) → xs ≡ ys → AddressTested xs o → AddressTested ys o
 tested xs ys o e h = subst (λ (zs : List ℕ). AddressTested zs o) e h
@@ -26,22 +26,22 @@ returns-in-Some g c =
     let h = tested c.address.result.now (head_of f).address (Some c.in-Some.index) c.address.ensures c.in-Some.ensures.tested in
     record { tested = bad_address (way g) f c.in-Some.index h.0 h.1 h.2; long = λ e. absurd (true≢false e) }
 
-pub returns-in-Some-label-fault : goal.returns-in-Some-label-fault
-returns-in-Some-label-fault g c =
+pub returns-in-Some-label_fault : goal.returns-in-Some-label_fault
+returns-in-Some-label_fault g c =
     let f = fields_given c.args.block.now in
-    let h = tested c.address.result.now (head_of f).address None c.address.ensures c.in-default.ensures.tested in
-    let k = named_ok g.Other.Ring.ring (named c.acknowledgment.result) (head_of f).acknowledgment c.acknowledgment.ensures c.if-not-is-acknowledgment.ensures in
+    let h = tested c.address.result.now (head_of f).address None c.address.ensures c.in_default.ensures.tested in
+    let k = named_ok g.D.Other.Ring.ring (named c.acknowledgment.result) (head_of f).acknowledgment c.acknowledgment.ensures c.if-not-is_acknowledgment.ensures in
     record {
-      tested = bad_label (way g) f c.in-Some-label-fault.index (good_more (way g) f 9 (good_nine (way g) f h) k) c.in-Some-label-fault.ensures.tested;
+      tested = bad_label (way g) f c.in-Some-label_fault.index (good_more (way g) f 9 (good_nine (way g) f h) k) c.in-Some-label_fault.ensures.tested;
       long = λ e. absurd (true≢false e);
     }
 
 pub returns-then-not-holds : goal.returns-then-not-holds
 returns-then-not-holds g c =
     let f = fields_given c.args.block.now in
-    let h = tested c.address.result.now (head_of f).address None c.address.ensures c.in-default.ensures.tested in
-    let k = named_ok g.Other.Ring.ring (named c.acknowledgment.result) (head_of f).acknowledgment c.acknowledgment.ensures c.if-not-is-acknowledgment.ensures in
-    let l = c.in-default-label-fault.ensures.tested in
+    let h = tested c.address.result.now (head_of f).address None c.address.ensures c.in_default.ensures.tested in
+    let k = named_ok g.D.Other.Ring.ring (named c.acknowledgment.result) (head_of f).acknowledgment c.acknowledgment.ensures c.if-not-is_acknowledgment.ensures in
+    let l = c.in_default-label_fault.ensures.tested in
     record {
       tested = record {
         from = lit≤ tt;
@@ -55,14 +55,14 @@ returns-then-not-holds g c =
 pub returns : goal.returns
 returns g c =
     let f = fields_given c.args.block.now in
-    let h = tested c.address.result.now (head_of f).address None c.address.ensures c.in-default.ensures.tested in
-    let k = named_ok g.Other.Ring.ring (named c.acknowledgment.result) (head_of f).acknowledgment c.acknowledgment.ensures c.if-not-is-acknowledgment.ensures in
-    let l = c.in-default-label-fault.ensures.tested in
+    let h = tested c.address.result.now (head_of f).address None c.address.ensures c.in_default.ensures.tested in
+    let k = named_ok g.D.Other.Ring.ring (named c.acknowledgment.result) (head_of f).acknowledgment c.acknowledgment.ensures c.if-not-is_acknowledgment.ensures in
+    let l = c.in_default-label_fault.ensures.tested in
     record {
       tested = good_more (way g) f 12 (good_label (way g) f (good_more (way g) f 9 (good_nine (way g) f h) k) l.0 l.1)
           (held g.D.Ring.ring c.identifier.result.0 (head_of f).identifier true c.identifier.ensures c.if-not-holds.ensures);
       long = λ e. record {
-        address = ap length (sym c.address.ensures) ∙ c.address-fault.ensures.long;
-        label = c.label-fault.ensures.long;
+        address = ap length (sym c.address.ensures) ∙ c.address_fault.ensures.long;
+        label = c.label_fault.ensures.long;
       };
     }

@@ -6,8 +6,8 @@ use Rattle.writing.proofs.fields.test_fields.Goals as goal
 use Rattle.writing.proofs.fields.test_fields.Given as given
 
 abbrev way : given.Over → Way
-way g = record { own = g.D.Ring.ring; other = g.Other.Ring.ring; text = g.D.Direction.text }
+way g = record { own = g.D.Ring.ring; other = g.D.Other.Ring.ring; text = g.D.Direction.text }
 
 pub returns : goal.returns
 returns g c =
-    sound_fields (way g) (fields_given c.args.block.now) (c.in-default.ensures.long refl) c.in-default.ensures.tested c.in-default-text-fault.ensures
+    sound_fields (way g) (fields_given c.args.block.now) (c.in_default.ensures.long refl) c.in_default.ensures.tested c.in_default-text_fault.ensures

@@ -15,9 +15,9 @@ loop-index-preserved c =
     let h : i < length s = omega arith in
     let xs = map laid_octet (take i s) in
     let n : length xs ≡ i = length-map (take i s) laid_octet ∙ length-take-le i s (omega arith) in
-    let e : c.octet-of.result ≡ laid_octet (get_or s i 0) = c.octet-of.ensures in
-    ap (λ (zs : List ℕ). set zs (c.args.start + i) c.octet-of.result) c.loop-index.invariant ∙
-    placed_more b c.args.start xs c.octet-of.result (c.args.start + i) (omega (arith, n)) (omega (arith, n, c.requires)) ∙
+    let e : c.octet_of.result ≡ laid_octet (get_or s i 0) = c.octet_of.ensures in
+    ap (λ (zs : List ℕ). set zs (c.args.start + i) c.octet_of.result) c.loop-index.invariant ∙
+    placed_more b c.args.start xs c.octet_of.result (c.args.start + i) (omega (arith, n)) (omega (arith, n, c.requires)) ∙
     ap (λ (y : ℕ). placed b c.args.start (xs ++ y ∷ [])) e ∙ ap (placed b c.args.start) (sym (map_more laid_octet s i 0 h))
 
 pub returns : goal.returns

@@ -7,8 +7,8 @@ use Rattle.writing.proofs.laying.lay_head.Goals as goal
 pub returns : goal.returns
 returns c =
     let f = fields_given c.args.block.now in
-    let k : c.acknowledgment-character-acknowledgment.result ≡ acknowledgment_character (head_of f).acknowledgment =
-    c.acknowledgment-character-acknowledgment.ensures ∙ ap acknowledgment_character c.acknowledgment.ensures in
+    let k : c.acknowledgment_character-acknowledgment.result ≡ acknowledgment_character (head_of f).acknowledgment =
+    c.acknowledgment_character-acknowledgment.ensures ∙ ap acknowledgment_character c.acknowledgment.ensures in
     head_laid c.args.buffer.now c.lay.new.buffer c.lay-2.new.buffer c.lay-3.new.buffer c.lay-4.new.buffer c.lay-5.new.buffer
     (head_of f).address (label_of f) (acknowledgment_character (head_of f).acknowledgment) (head_of f).identifier
     c.requires.room c.requires.lengths.address c.requires.lengths.label

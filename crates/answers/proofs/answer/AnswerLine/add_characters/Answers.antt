@@ -13,8 +13,8 @@ loop-octet-init c = (added_none c.args.self.now, omega arith)
 
 pub loop-octet-preserved : goal.loop-octet-preserved
 loop-octet-preserved c = (
-  added_then _ _ _ _ _ _ (characters_more c.args.octets.now c.loop-octet.octet-index c.character-of.result c.character-of.ensures c.loop-octet-test.true) c.loop-octet.invariant.0 c.add-octet.ensures,
-  omega (arith, c.add-octet.ensures.long),
+  added_then _ _ _ _ _ _ (characters_more c.args.octets.now c.loop-octet.octet-index c.character_of.result c.character_of.ensures c.loop-octet-test.true) c.loop-octet.invariant.0 c.add_octet.ensures,
+  omega (arith, c.add_octet.ensures.long),
 )
 
 pub returns : goal.returns

@@ -7,8 +7,8 @@ use Rattle.answers.proofs.answer.AnswerLine.add_head.Goals as goal
 pub returns : goal.returns
 returns c =
     record {
-      added = added_then c.args.self.now c.add-characters.new.self c.add.new.self _ _ _
+      added = added_then c.args.self.now c.add_characters.new.self c.add.new.self _ _ _
           (ap (λ (x : ℕ). map character c.args.address.now ++ (44 ∷ x ∷ 44 ∷ [])) c.mark_of_lem.ensures)
-          c.add-characters.ensures.added c.add.ensures;
-      room = omega (arith, c.add.ensures.long, c.add-characters.ensures.room);
+          c.add_characters.ensures.added c.add.ensures;
+      room = omega (arith, c.add.ensures.long, c.add_characters.ensures.room);
     }

@@ -13,8 +13,8 @@ loop-octet-init c = (added_none c.args.self.now, omega arith)
 
 pub loop-octet-preserved : goal.loop-octet-preserved
 loop-octet-preserved c = (
-  added_then _ _ _ _ _ _ (text_more c.args.text.now c.loop-octet.octet-index c.character-of.result c.character-of.ensures c.loop-octet-test.true) c.loop-octet.invariant.0 c.add-escaped.ensures.added,
-  omega (arith, c.add-escaped.ensures.room),
+  added_then _ _ _ _ _ _ (text_more c.args.text.now c.loop-octet.octet-index c.character_of.result c.character_of.ensures c.loop-octet-test.true) c.loop-octet.invariant.0 c.add_escaped.ensures.added,
+  omega (arith, c.add_escaped.ensures.room),
 )
 
 pub returns : goal.returns

@@ -19,8 +19,8 @@ returns-in-Response c =
       test = sym (ap fits_block c.in-Response.is);
       text =
           onward ((o ++ codes "0,response,") ++ heading a.now k) (i.0 ∷ 10 ∷ []) c.add-in-Response.ensures.text
-          (onward (o ++ codes "0,response,") (heading a.now k) c.add-head.ensures.added.text
-          (onward o (codes "0,response,") c.add.ensures.text c.print-opening.ensures.text))
+          (onward (o ++ codes "0,response,") (heading a.now k) c.add_head.ensures.added.text
+          (onward o (codes "0,response,") c.add.ensures.text c.print_opening.ensures.text))
           ∙ response_line c.args.count c.args.heading a k i
           ∙ ap (λ (b : Block). printed c.args.count (block c.args.heading (fields_read b))) (sym c.in-Response.is);
     }
@@ -43,14 +43,14 @@ returns-else-text-gt220 c =
     record {
       test = sym (ap fits_block c.in-Message.is ∙ le-leb (length t.now) 220 c.if-text-gt220.false);
       text =
-          onward texted (10 ∷ []) c.add-octet-in-Message.ensures.text
-          (onward (ended ++ (44 ∷ [])) (flat_map escaped (map character t.now)) c.add-text.ensures.added.text
-          (onward ended (44 ∷ []) c.add-octet.ensures.text
-          (onward identified (cond e (codes "last") (codes "more")) c.add-last.ensures.added.text
+          onward texted (10 ∷ []) c.add_octet-in-Message.ensures.text
+          (onward (ended ++ (44 ∷ [])) (flat_map escaped (map character t.now)) c.add_text.ensures.added.text
+          (onward ended (44 ∷ []) c.add_octet.ensures.text
+          (onward identified (cond e (codes "last") (codes "more")) c.add_last.ensures.added.text
           (onward labelled (44 ∷ i.0 ∷ 44 ∷ []) c.add-in-Message-2.ensures.text
-          (onward headed (map character l.now) c.add-characters.ensures.added.text
-          (onward named (heading a.now k) c.add-head-in-Message.ensures.added.text
-          (onward o (codes "0,message,") c.add-in-Message.ensures.text c.print-opening-in-Message.ensures.text)))))))
+          (onward headed (map character l.now) c.add_characters.ensures.added.text
+          (onward named (heading a.now k) c.add_head-in-Message.ensures.added.text
+          (onward o (codes "0,message,") c.add-in-Message.ensures.text c.print_opening-in-Message.ensures.text)))))))
           ∙ message_line c.args.count c.args.heading a k l i e t
           ∙ ap (λ (b : Block). printed c.args.count (block c.args.heading (fields_read b))) (sym c.in-Message.is);
     }

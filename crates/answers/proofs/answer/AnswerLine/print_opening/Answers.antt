@@ -7,8 +7,8 @@ pub returns : goal.returns
 returns c =
     record {
       text =
-          onward (decimal c.args.count) (44 ∷ c.letter-of.result ∷ 44 ∷ []) c.add.ensures.text
-          (onward [] (decimal c.args.count) c.add-number.ensures.added.text c.clear.ensures.text)
-          ∙ ap (λ (x : ℕ). decimal c.args.count ++ (44 ∷ x ∷ 44 ∷ [])) c.letter-of.ensures;
-      long = omega (arith, c.add.ensures.long, c.add-number.ensures.room, c.clear.ensures.long);
+          onward (decimal c.args.count) (44 ∷ c.letter_of.result ∷ 44 ∷ []) c.add.ensures.text
+          (onward [] (decimal c.args.count) c.add_number.ensures.added.text c.clear.ensures.text)
+          ∙ ap (λ (x : ℕ). decimal c.args.count ++ (44 ∷ x ∷ 44 ∷ [])) c.letter_of.ensures;
+      long = omega (arith, c.add.ensures.long, c.add_number.ensures.room, c.clear.ensures.long);
     }

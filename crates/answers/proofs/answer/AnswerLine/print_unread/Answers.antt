@@ -5,6 +5,6 @@ use Rattle.answers.proofs.answer.AnswerLine.print_unread.Goals as goal
 
 pub returns : goal.returns
 returns c =
-    onward (decimal c.args.count) (codes ",-,0,unread\n") c.add-unread.ensures.text
-    (onward [] (decimal c.args.count) c.add-number.ensures.added.text c.clear.ensures.text)
+    onward (decimal c.args.count) (codes ",-,0,unread\n") c.add_unread.ensures.text
+    (onward [] (decimal c.args.count) c.add_number.ensures.added.text c.clear.ensures.text)
     ∙ unread_line c.args.count

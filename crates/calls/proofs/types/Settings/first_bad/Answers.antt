@@ -1,8 +1,8 @@
 use Rattle.std.proofs.Common.{◌<◌, arith, below_more}
 use Rattle.calls.proofs.types.Settings.first_bad.Goals as goal
 
-pub returns-then-not-is-good : goal.returns-then-not-is-good
-returns-then-not-is-good c = record { from = omega arith; until = omega arith; before = λ m p q. c.loop-number.invariant m q p; bad = cc }
+pub returns-then-not-is_good : goal.returns-then-not-is_good
+returns-then-not-is_good c = record { from = omega arith; until = omega arith; before = λ m p q. c.loop-number.invariant m q p; bad = cc }
 
 pub loop-number-preserved : goal.loop-number-preserved
 loop-number-preserved c = below_more _ _ c.loop-number.invariant (λ h. cc)

@@ -8,7 +8,7 @@ sixth : (s : Settings) (n : ℕ) → (n ≡ 1 → ⊥) → (n ≡ 2 → ⊥) →
     setting_good s n ≡ (leb s.high s.contact && leb s.contact 3600000)
 sixth s n a b c d e = rw (ne_eqb n 1 a, ne_eqb n 2 b, ne_eqb n 3 c, ne_eqb n 4 d, ne_eqb n 5 e)
 
-pub returns-in-default : goal.returns-in-default
-returns-in-default c =
-    c.is-between-in-default.ensures ∙
+pub returns-in_default : goal.returns-in_default
+returns-in_default c =
+    c.is_between-in_default.ensures ∙
     sym (sixth c.args.self.now c.args.number (λ h. omega arith) (λ h. omega arith) (λ h. omega arith) (λ h. omega arith) (λ h. omega arith))

@@ -14,12 +14,12 @@ ways g =
 pub unreachable-requires : goal.unreachable-requires
 unreachable-requires g c = plan_there (model c.args.self.now) c.args.index (sym c.requires) (sym c.in-None.ensures)
 
-pub returns-then-is-out : goal.returns-then-is-out
-returns-then-is-out g c =
-    moved_at (ways g) (model c.args.self.now) c.args.index c.in-Some.cell c.length-at-length.result c.block-count-blocks.result c.advanced.result
-    (outbox_of c.set-stage.new.self) (sym c.requires) (sym c.in-Some.ensures) (sym c.is_out_lem.ensures ∙ c.if-is-out.true)
-    c.length-at-length.ensures c.block-count-blocks.ensures c.advanced.ensures c.set-stage.ensures
+pub returns-then-is_out : goal.returns-then-is_out
+returns-then-is_out g c =
+    moved_at (ways g) (model c.args.self.now) c.args.index c.in-Some.cell c.length_at-length.result c.block_count-blocks.result c.advanced.result
+    (outbox_of c.set_stage.new.self) (sym c.requires) (sym c.in-Some.ensures) (sym c.is_out_lem.ensures ∙ c.if-is_out.true)
+    c.length_at-length.ensures c.block_count-blocks.ensures c.advanced.ensures c.set_stage.ensures
 
-pub returns-else-is-out : goal.returns-else-is-out
-returns-else-is-out g c =
-    kept_at (ways g) (model c.args.self.now) c.args.index c.in-Some.cell (sym c.requires) (sym c.in-Some.ensures) (sym c.is_out_lem.ensures ∙ c.if-is-out.false)
+pub returns-else-is_out : goal.returns-else-is_out
+returns-else-is_out g c =
+    kept_at (ways g) (model c.args.self.now) c.args.index c.in-Some.cell (sym c.requires) (sym c.in-Some.ensures) (sym c.is_out_lem.ensures ∙ c.if-is_out.false)

@@ -7,11 +7,11 @@ use Rattle.ends.proofs.end.End.current.Goals as goal
 pub loop-index-init : goal.loop-index-init
 loop-index-init g c = from_zero (held c.args.self.now.sender.cells)
 
-pub returns-then-is-unsettled : goal.returns-then-is-unsettled
-returns-then-is-unsettled g c =
+pub returns-then-is_unsettled : goal.returns-then-is_unsettled
+returns-then-is_unsettled g c =
     let cs = held c.args.self.now.sender.cells in
-    let u = c.is-unsettled.ensures in
-    let t = c.if-is-unsettled.true in
+    let u = c.is_unsettled.ensures in
+    let t = c.if-is_unsettled.true in
     sym (found cs c.loop-index.index c.in-Some.cell (sym c.in-Some.ensures) (sym u ∙ t)) ∙ c.loop-index.invariant
 
 pub returns-in-None : goal.returns-in-None
@@ -22,8 +22,8 @@ returns-in-None g c =
 pub loop-index-preserved : goal.loop-index-preserved
 loop-index-preserved g c =
     let cs = held c.args.self.now.sender.cells in
-    let u = c.is-unsettled.ensures in
-    let t = c.if-is-unsettled.false in
+    let u = c.is_unsettled.ensures in
+    let t = c.if-is_unsettled.false in
     let p = passed cs c.loop-index.index c.in-Some.cell (sym c.in-Some.ensures) (sym u ∙ t) in
     rw add-one (sym p ∙ c.loop-index.invariant)
 

@@ -8,8 +8,8 @@ pub returns : goal.returns
 returns g c =
     let s = c.args.settings in
     let m = c.args.memory in
-    let good : Good s = c.in-default.ensures in
+    let good : Good s = c.in_default.ensures in
     (good, fresh_empty s (held m.cells) (held m.waiting) m.unused.0 m.unused.1)
 
-pub invariant-of-result : goal.invariant-of-result
-invariant-of-result g c = (waits_within c.args.settings c.in-default.ensures, tt)
+pub invariant_of-result : goal.invariant_of-result
+invariant_of-result g c = (waits_within c.args.settings c.in_default.ensures, tt)

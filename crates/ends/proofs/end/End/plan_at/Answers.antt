@@ -9,7 +9,7 @@ use Rattle.ends.proofs.end.End.plan_at.Goals as goal
 pub returns : goal.returns
 returns g c =
     let m = model c.args.self.now in
-    c.plan-by.ensures ∙
+    c.plan_by.ensures ∙
     sym (plan_is m c.args.time c.args.index c.in-Some.cell (sym c.requires) (sym c.in-Some.ensures))
 
 pub unreachable-requires : goal.unreachable-requires

@@ -14,5 +14,5 @@ returns g c =
     let b = both cs c.args.index c.in-Some.cell c.in-Some-text.text.now (sym c.in-Some.ensures) (sym c.in-Some-text.ensures.value) in
     sent_block g.P.AirPath.puts
     (record { out = record { own = g.O.Ring.ring; other = g.I.Ring.ring; text = g.O.Direction.text }; inn = record { own = g.I.Ring.ring; other = g.O.Ring.ring; text = g.I.Direction.text } })
-    (model c.args.self.now) c.args.index c.args.acknowledged c.args.identifier.0 (stored c.in-Some.cell c.in-Some-text.text.now) c.send-block.result
-    (g.P.AirPath.sees c.args.path.now) (g.P.AirPath.sees c.send-block.new.path) b c.send-block.ensures
+    (model c.args.self.now) c.args.index c.args.acknowledged c.args.identifier.0 (stored c.in-Some.cell c.in-Some-text.text.now) c.send_block.result
+    (g.P.AirPath.sees c.args.path.now) (g.P.AirPath.sees c.send_block.new.path) b c.send_block.ensures

@@ -13,7 +13,7 @@ returns-in-Some c =
     }
 
 pub loop-place-preserved : goal.loop-place-preserved
-loop-place-preserved c = below_more _ _ c.loop-place.invariant c.in-default.ensures.value
+loop-place-preserved c = below_more _ _ c.loop-place.invariant c.in_default.ensures.value
 
 pub returns : goal.returns
 returns c =

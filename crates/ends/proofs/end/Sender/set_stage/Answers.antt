@@ -10,7 +10,7 @@ pub returns-in-Some : goal.returns-in-Some
 returns-in-Some c =
     let cs = held c.args.self.now.cells in
     ap (λ (x : List (Stored Cell)). with_cells (outbox_of c.args.self.now) x)
-    (c.set-record.ensures ∙ stage_set cs c.args.index c.in-Some.cell c.args.stage (sym c.in-Some.ensures))
+    (c.set_record.ensures ∙ stage_set cs c.args.index c.in-Some.cell c.args.stage (sym c.in-Some.ensures))
 
 pub returns-in-None : goal.returns-in-None
 returns-in-None c =

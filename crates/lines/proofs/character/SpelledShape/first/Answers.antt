@@ -8,24 +8,24 @@ use Rattle.lines.proofs.character.SpelledShape.first.Goals as goal
 rest_long : (run : List ℕ) (n : ℕ) → n ≡ suffix_at (take (length run - 4) (drop 4 run)) → 4 + spelled.first run ≤ length run → n + 4 ≤ length (take (length run - 4) (drop 4 run))
 rest_long run n e h = omega (arith, e ∙ ap suffix_at (take_rest run 4), ap length (take_rest run 4), length-drop 4 run)
 
-pub overflow-add-n : goal.overflow-add-n
-overflow-add-n c = let long = rest_long c.args.run.now c.suffix-at-n.result c.suffix-at-n.ensures c.requires.run in search rules
+pub overflow_add-n : goal.overflow_add-n
+overflow_add-n c = let long = rest_long c.args.run.now c.suffix_at-n.result c.suffix_at-n.ensures c.requires.run in search rules
 
-pub slice-bounds-hand-out-end : goal.slice-bounds-hand-out-end
-slice-bounds-hand-out-end c = let long = rest_long c.args.run.now c.suffix-at-n.result c.suffix-at-n.ensures c.requires.run in search rules
+pub slice_bounds-hand_out-end : goal.slice_bounds-hand_out-end
+slice_bounds-hand_out-end c = let long = rest_long c.args.run.now c.suffix_at-n.result c.suffix_at-n.ensures c.requires.run in search rules
 
-pub hand-out-requires : goal.hand-out-requires
-hand-out-requires c =
+pub hand_out-requires : goal.hand_out-requires
+hand_out-requires c =
     let run = c.args.run.now in
-    let found = c.suffix-at-n.ensures ∙ ap suffix_at (take_rest run 4) in
-    omega (arith, found, length-take (c.suffix-at-n.result + 4 - 0) (take (length run - 4) (drop 4 run)), c.requires.room)
+    let found = c.suffix_at-n.ensures ∙ ap suffix_at (take_rest run 4) in
+    omega (arith, found, length-take (c.suffix_at-n.result + 4 - 0) (take (length run - 4) (drop 4 run)), c.requires.room)
 
 pub returns : goal.returns
 returns c =
     let run = c.args.run.now in
-    let found = c.suffix-at-n.ensures ∙ ap suffix_at (take_rest run 4) in
-    let filled : c.hand-out.new.buffer ≡ take (spelled.first run - 0) (take (length run - 4) (drop 4 run)) ++ drop (length (take (spelled.first run - 0) (take (length run - 4) (drop 4 run)))) c.args.buffer.now = c.hand-out.ensures ∙ ap (λ (k : ℕ). take (k + 4 - 0) (take (length run - 4) (drop 4 run)) ++ drop (length (take (k + 4 - 0) (take (length run - 4) (drop 4 run)))) c.args.buffer.now) found in
+    let found = c.suffix_at-n.ensures ∙ ap suffix_at (take_rest run 4) in
+    let filled : c.hand_out.new.buffer ≡ take (spelled.first run - 0) (take (length run - 4) (drop 4 run)) ++ drop (length (take (spelled.first run - 0) (take (length run - 4) (drop 4 run)))) c.args.buffer.now = c.hand_out.ensures ∙ ap (λ (k : ℕ). take (k + 4 - 0) (take (length run - 4) (drop 4 run)) ++ drop (length (take (k + 4 - 0) (take (length run - 4) (drop 4 run)))) c.args.buffer.now) found in
     record {
       length = ap (λ (k : ℕ). k + 4) found;
-      buffer = read_behind 4 (spelled.first run) run c.args.buffer.now c.hand-out.new.buffer c.requires.run filled;
+      buffer = read_behind 4 (spelled.first run) run c.args.buffer.now c.hand_out.new.buffer c.requires.run filled;
     }

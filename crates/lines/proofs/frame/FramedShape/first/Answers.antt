@@ -6,5 +6,5 @@ use Rattle.lines.proofs.frame.FramedShape.first.Goals as goal
 pub returns : goal.returns
 returns c = record {
   length = refl;
-  buffer = read_behind 2 (framed.first c.args.run.now) c.args.run.now c.args.buffer.now c.hand-out.new.buffer c.requires.run c.hand-out.ensures;
+  buffer = read_behind 2 (framed.first c.args.run.now) c.args.run.now c.args.buffer.now c.hand_out.new.buffer c.requires.run c.hand_out.ensures;
 }

@@ -5,7 +5,7 @@ use Rattle.paths.proofs.held.Fates.read.Goals as goal
 
 pub loop-i-preserved : goal.loop-i-preserved
 loop-i-preserved c =
-    (simp length-set c.loop-i.invariant.0, read_more c.loop-i.store c.args.numbers.now c.loop-i.i c.from-number.result c.from-number.ensures (omega arith) (omega arith) c.loop-i.invariant.1)
+    (simp length-set c.loop-i.invariant.0, read_more c.loop-i.store c.args.numbers.now c.loop-i.i c.from_number.result c.from_number.ensures (omega arith) (omega arith) c.loop-i.invariant.1)
 
 pub returns : goal.returns
 returns c =

@@ -4,14 +4,14 @@ use Rattle.stores.specs.Held.{held}
 use Rattle.stores.proofs.Holding.{held_length, evenly, pushed}
 use Rattle.stores.proofs.store.MessageStore.push.Goals as goal
 
-pub returns-in-default : goal.returns-in-default
+pub returns-in_default : goal.returns-in_default
 unfolding held
-returns-in-default g c =
+returns-in_default g c =
     let s = c.args.self.now in
     let n = held_length s in
     let e = s.even in
     let f = s.four in
-    let l = c.in-default.ensures.cases in
+    let l = c.in_default.ensures.cases in
     record { full = inl (omega arith); same = refl {a = held c.args.self.now} }
 
 pub returns-then-not-append : goal.returns-then-not-append
@@ -34,5 +34,5 @@ returns g c =
     record {
       room = omega arith;
       fits = omega (arith, h.fits);
-      joined = pushed (vec_items s.records) (vec_items c.push-reserved-2.new.self) (vec_items s.texts) (vec_items c.push-reserved-3.new.self) c.args.record c.append.new.self (octets_of c.clear.new.self) c.args.text.now (evenly s) c.push-reserved-2.ensures.items c.push-reserved-3.ensures.items c.clear.ensures h.joined;
+      joined = pushed (vec_items s.records) (vec_items c.push_reserved-2.new.self) (vec_items s.texts) (vec_items c.push_reserved-3.new.self) c.args.record c.append.new.self (octets_of c.clear.new.self) c.args.text.now (evenly s) c.push_reserved-2.ensures.items c.push_reserved-3.ensures.items c.clear.ensures h.joined;
     }

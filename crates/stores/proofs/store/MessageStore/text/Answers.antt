@@ -11,8 +11,8 @@ returns-then-index-len g c =
     let x = c.index.result.now in
     let q : x ≡ get_or (vec_items s.texts) c.args.index x = cc in
     record {
-      value = ap Some c.as-slice.ensures.value ∙ paired_text (vec_items s.records) (vec_items s.texts) c.args.index x (evenly s) (omega arith) q;
-      within = c.as-slice.ensures.within;
+      value = ap Some c.as_slice.ensures.value ∙ paired_text (vec_items s.records) (vec_items s.texts) c.args.index x (evenly s) (omega arith) q;
+      within = c.as_slice.ensures.within;
     }
 
 pub returns-else-index-len : goal.returns-else-index-len
