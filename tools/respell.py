@@ -15,8 +15,9 @@ SIGNATURE = re.compile(r"^\s*(?:unfoldable |abbrev )?(?:pub )?(?:unfoldable |abb
 USE = re.compile(r"^use ([^{\s]+?)\.?\{([^}]*)\}")
 
 
-# Names whose new spelling another name has already: a lemma of its function's name ends in _lem.
-APART = {n: n.replace("-", "_") + "_lem" for n in ["block-put", "hears-on", "is-next", "is-out", "owed-by", "part-after", "refused-by", "rest-rule", "to-come", "waiting-in", "withdrawn-as", "mark-of", "or-else", "cuts-come-back", "deliveries-happen", "lines-determined", "lines-stand", "plan-at", "rounds-happen", "spoiled-says-nothing", "waiting-come-out"]}
+# Names whose new spelling another name beside them has already: a lemma with its function's name ends in _lem.
+APART = {n: n.replace("-", "_") + "_lem" for n in ["cuts-come-back", "deliveries-happen", "lines-determined", "lines-stand", "plan-at", "refused-by", "rest-rule", "rounds-happen", "spoiled-says-nothing", "waiting-come-out"]}
+APART["or-else"] = "cell_or_else"
 
 
 def files(ending):
@@ -82,6 +83,11 @@ def foreign(text):
     return out
 
 
+def is_step(line, m):
+    """Whether the name is that of a step of a function's code, as in c.plan-at.ensures."""
+    return m.group(0) in APART and line[: m.start()].endswith(" c.") or m.group(0) in APART and line[: m.start()].endswith("(c.")
+
+
 def main():
     own, made = declared()
     names = {n: turned(n) for n in own if turns(n) and n not in made}
@@ -112,7 +118,7 @@ def main():
             for line in text.split("\n"):
                 comment = line.find("--" if ending == ".antt" else "//")
                 body, rest = (line, "") if comment < 0 or (comment > 0 and line[comment - 1] not in " \t") else (line[:comment], line[comment:])
-                body = TOKEN.sub(lambda m: names.get(m.group(0), m.group(0)) if m.group(0) not in keep else m.group(0), body)
+                body = TOKEN.sub(lambda m: m.group(0) if m.group(0) in keep or is_step(body, m) else names.get(m.group(0), m.group(0)), body)
                 rest = TOKEN.sub(lambda m: names[m.group(0)] if m.group(0) in names and not re.match(r"^[a-z-]+$", m.group(0)) else m.group(0), rest)
                 lines.append(body + rest)
             new = "\n".join(lines)

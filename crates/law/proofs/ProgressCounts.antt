@@ -151,7 +151,7 @@ pub data NotOut : Sender → Type 0 where
 
 -- the current block has gone out under identifier i
 pub data OutUnder (i : ℕ) : Sender → Type 0 where
-  is_out_lem : {g : List Message} {c : ℕ → Status} {z : Course} {s : ℕ} → OutUnder i (sender g c (out z) (some i) s)
+  is_out : {g : List Message} {c : ℕ → Status} {z : Course} {s : ℕ} → OutUnder i (sender g c (out z) (some i) s)
 
 -- then nothing counts
 pub none_counts : {s s' : Sender} {a : Option ℕ} {k : ℕ × ℕ} → NotOut s → Counts s a (some k) s' → ⊥
@@ -165,12 +165,12 @@ counts_once advances = is_ready
 
 -- one that names a current block which has gone out counts
 pub names_counts : {i j : ℕ} {s s' : Sender} → OutUnder i s → i ≡ j → Counts s (some j) none s' → ⊥
-names_counts {i} (is_out_lem {g} {c} {z} {s}) e (stale h) = h (subst (λ k. Current (sender g c (out z) (some i) s) k) e Current.current)
+names_counts {i} (is_out {g} {c} {z} {s}) e (stale h) = h (subst (λ k. Current (sender g c (out z) (some i) s) k) e Current.current)
 
 pub sends_out : {d : Direction} {b : Bool} {s s' : Sender} {z : Course} {k : Block} → Sends d b s z k s' → OutUnder (identifier k) s'
-sends_out (first {n = n} {l = l} {t = t} {us = us} ch e) = is_out_lem
-sends_out (further {z = course n l ds t us}) = is_out_lem
-sends_out (again {z = course n l ds t us}) = is_out_lem
+sends_out (first {n = n} {l = l} {t = t} {us = us} ch e) = is_out
+sends_out (further {z = course n l ds t us}) = is_out
+sends_out (again {z = course n l ds t us}) = is_out
 
 pub quiet_idle : {b : Bool} {s : Sender} → Quiet b s → OnTime b s → NotOut s
 quiet_idle early o = let z : ◌≡◌ {A = ℕ} 0 1 = cc in absurd (omega arith)

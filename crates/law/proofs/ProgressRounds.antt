@@ -5,7 +5,7 @@ use Rattle.law.specs.Directions.{Direction, Sound}
 use Rattle.law.specs.Senders.{Message, Sender, Block, Counts}
 use Rattle.law.specs.Receivers.{Part, Receiver, receiver, Took, complete, stray, seventeenth, identifier, Takes, takes_duplicate, takes_part, takes_last, refuses_stray, refuses_seventeenth, refuses_crowded, owes}
 use Rattle.law.specs.Links.{Packet, packet, End, an_end, acknowledgment, Answer, took, Hears, passes, hears_response, hears_block, heard, Side, at, Link, Step, ◌then◌}
-use Rattle.law.specs.Truth.{other, end_of, sender_in, waiting_in_lem, sender_of, calls, Made, RefusalsNever}
+use Rattle.law.specs.Truth.{other, end_of, sender_in, waiting_in, sender_of, calls, Made, RefusalsNever}
 use Rattle.law.specs.Rounds.{CleanTick, put_block, put_response, put_nothing, Collecting, collected_all, collects, Draining, drained, drains, drains_last, spare, spare_after, Listening, listened, listens, OnTime, Round, round, Rounds, no_round, one_more, Progress}
 use Rattle.law.proofs.ProgressCounts.{to_do, NotOut, OutUnder, count_sends, count_quiet, count_counts, same_counts, none_counts, counts_once, names_counts, sends_out, quiet_idle}
 use Rattle.law.proofs.ProgressHistory.{left_is}
@@ -34,7 +34,7 @@ joins_names (p ∷ o) i b = names_on (joins_names o i b)
 -- last string that waits holds a block under i
 data Ahead (i : ℕ) : End → List Packet → Type 0 where
   arrived : {s : Sender} {j : ℕ} {pt : Part} → j ≡ i → Ahead i (an_end s (receiver (some j) pt []) true) []
-  to_come_lem : {s : Sender} {a : Option ℕ} {pt : Part} {w : Bool} {ps : List Packet} → LastHolds i ps → Ahead i (an_end s (receiver a pt []) w) ps
+  to_come : {s : Sender} {a : Option ℕ} {pt : Part} {w : Bool} {ps : List Packet} → LastHolds i ps → Ahead i (an_end s (receiver a pt []) w) ps
 
 data Arrived (i : ℕ) : End → Type 0 where
   is_arrived : {s : Sender} {j : ℕ} {pt : Part} → j ≡ i → Arrived i (an_end s (receiver (some j) pt []) true)
@@ -60,29 +60,29 @@ takes_it w e (refuses_crowded n j h k) u v = absurd (omega arith)
 -- a string before it, heard
 takes_on : {d : Direction} {i : ℕ} {s : Sender} {o : Option ℕ} {pt : Part} {b : Block} {x : Took} (w : Bool) {r' : Receiver} {ps : List Packet} →
     LastHolds i ps → Takes d (receiver o pt []) b x r' → AheadFull i (took x) (an_end s r' (owes x w)) ps
-takes_on w h takes_duplicate = still (to_come_lem h)
-takes_on w h (takes_part n j k) = still (to_come_lem h)
+takes_on w h takes_duplicate = still (to_come h)
+takes_on w h (takes_part n j k) = still (to_come h)
 takes_on w h (takes_last n j k m) = to_come_full h
-takes_on w h (refuses_stray n j) = still (to_come_lem h)
-takes_on w h (refuses_seventeenth n j k) = still (to_come_lem h)
-takes_on w h (refuses_crowded n j k m) = still (to_come_lem h)
+takes_on w h (refuses_stray n j) = still (to_come h)
+takes_on w h (refuses_seventeenth n j k) = still (to_come h)
+takes_on w h (refuses_crowded n j k m) = still (to_come h)
 
 -- a hear of the string in front
-hears_on_lem : {out inn : Direction} {i : ℕ} {e e' : End} {p : Packet} {ps : List Packet} {a : Answer} {k : Option (ℕ × ℕ)} →
+hears_on : {out inn : Direction} {i : ℕ} {e e' : End} {p : Packet} {ps : List Packet} {a : Answer} {k : Option (ℕ × ℕ)} →
     Ahead i e (p ∷ ps) → Hears out inn e p a k e' → (a ≡ took stray → ⊥) → (a ≡ took seventeenth → ⊥) → AheadFull i a e' ps
-hears_on_lem (to_come_lem (holds_it q)) (passes x) u v = elim x [ ]
-hears_on_lem (to_come_lem (holds_it q)) (hears_block {w = w} c t) u v = takes_it w q t (λ e. u (ap took e)) (λ e. v (ap took e))
-hears_on_lem (to_come_lem (holds_on q)) (passes x) u v = still (to_come_lem q)
-hears_on_lem (to_come_lem (holds_on q)) (hears_response c) u v = still (to_come_lem q)
-hears_on_lem (to_come_lem (holds_on q)) (hears_block {w = w} c t) u v = takes_on w q t
+hears_on (to_come (holds_it q)) (passes x) u v = elim x [ ]
+hears_on (to_come (holds_it q)) (hears_block {w = w} c t) u v = takes_it w q t (λ e. u (ap took e)) (λ e. v (ap took e))
+hears_on (to_come (holds_on q)) (passes x) u v = still (to_come q)
+hears_on (to_come (holds_on q)) (hears_response c) u v = still (to_come q)
+hears_on (to_come (holds_on q)) (hears_block {w = w} c t) u v = takes_on w q t
 
 -- a collect of the message completed
 collect_on : {i : ℕ} {e : End} {a : Answer} {ps : List Packet} {m : Message} {ms : List Message} →
-    AheadFull i a e ps → waiting_in_lem e ≡ m ∷ ms → Ahead i (uncovered e) ps
+    AheadFull i a e ps → waiting_in e ≡ m ∷ ms → Ahead i (uncovered e) ps
 collect_on (arrived_full q) h = arrived q
-collect_on (to_come_full q) h = to_come_lem q
+collect_on (to_come_full q) h = to_come q
 collect_on (still (arrived q)) h = let z : ◌≡◌ {A = ℕ} 0 1 = cc in absurd (omega arith)
-collect_on (still (to_come_lem q)) h = let z : ◌≡◌ {A = ℕ} 0 1 = cc in absurd (omega arith)
+collect_on (still (to_come q)) h = let z : ◌≡◌ {A = ℕ} 0 1 = cc in absurd (omega arith)
 
 -- an answer that completed nothing
 settled : {i : ℕ} {a : Answer} {e : End} {ps : List Packet} → AheadFull i a e ps → (a ≡ took complete → ⊥) → Ahead i e ps
@@ -93,8 +93,8 @@ settled (to_come_full q) n = absurd (n refl)
 -- nothing waits
 all_heard : {i : ℕ} {e : End} {ps : List Packet} → Ahead i e ps → 0 ≡ length ps → Arrived i e
 all_heard (arrived q) h = is_arrived q
-all_heard (to_come_lem (holds_it q)) h = absurd (omega arith)
-all_heard (to_come_lem (holds_on q)) h = absurd (omega arith)
+all_heard (to_come (holds_it q)) h = absurd (omega arith)
+all_heard (to_come (holds_on q)) h = absurd (omega arith)
 
 -- a hear that dropped nothing took the string in front
 front : (gone ps qs : List Packet) (p : Packet) → 0 ≡ length gone → qs ≡ gone ++ (p ∷ ps) → qs ≡ p ∷ ps
@@ -128,7 +128,7 @@ module _ {dn up : Direction} (x : Side) where
 record Emptied (dn up : Direction) (x : Side) (l l' : Link) : Type 0 where
   reached : Reached dn up l'
   on_way : put_by x l' ≡ put_by x l
-  empty : waiting_in_lem (end_of (other x) l') ≡ []
+  empty : waiting_in (end_of (other x) l') ≡ []
 
 collecting : {dn up : Direction} (x : Side) {l l' : Link} → Collecting dn up (other x) l l' → Reached dn up l → Emptied dn up x l l'
 collecting x (collected_all s) r =
@@ -140,8 +140,8 @@ collecting x (collects s c) r =
     record { reached = b.reached; on_way = b.on_way ∙ m.in_same; empty = b.empty }
 
 -- then the block on the way is ahead
-lies_ahead : {i : ℕ} {ps : List Packet} (e : End) → waiting_in_lem e ≡ [] → LastHolds i ps → Ahead i e ps
-lies_ahead (an_end s (receiver a pt []) w) h q = to_come_lem q
+lies_ahead : {i : ℕ} {ps : List Packet} (e : End) → waiting_in e ≡ [] → LastHolds i ps → Ahead i e ps
+lies_ahead (an_end s (receiver a pt []) w) h q = to_come q
 lies_ahead (an_end s (receiver a pt (m ∷ ms)) w) h q = let z : ◌≡◌ {A = ℕ} 0 1 = cc in absurd (omega arith)
 
 -- the receiver hears until nothing waits: the last string, a block under i, is accepted or a duplicate
@@ -153,7 +153,7 @@ module _ (never : RefusalsNever) {dn up : Direction} (sd : Sound dn) (su : Sound
       let v = at (other x) (heard 0 a k) in
       let n = never dn up sd su (v ∷ r.history) l' (r.run then s) (other x) 0 k in
       let c = newest (other x) (heard 0 a k) r.history in
-      hears_on_lem (subst (λ ps. Ahead i (end_of (other x) l) ps) (front m.gone (put_by x l') (put_by x l) m.p m.count m.waited) h) m.hears
+      hears_on (subst (λ ps. Ahead i (end_of (other x) l) ps) (front m.gone (put_by x l') (put_by x l) m.p m.count m.waited) h) m.hears
       (λ e. n.0 (subst (λ b. Made (heard 0 b k) (calls (other x) (v ∷ r.history))) e c))
       (λ e. n.1 (subst (λ b. Made (heard 0 b k) (calls (other x) (v ∷ r.history))) e c))
 
@@ -179,13 +179,13 @@ module _ (never : RefusalsNever) {dn up : Direction} (sd : Sound dn) (su : Sound
       record { reached = reached_then b.reached s; ended = rw m.same b.ended }
 
 -- what the end will acknowledge, and whether it owes that
-abbrev owed_by_lem : End → Option ℕ
-owed_by_lem (an_end s r w) = acknowledgment w r
+abbrev owed_by : End → Option ℕ
+owed_by (an_end s r w) = acknowledgment w r
 
 abbrev owing : End → Bool
 owing (an_end s r w) = w
 
-arrived_owes : {i : ℕ} {e : End} → Arrived i e → owed_by_lem e ≡ some i
+arrived_owes : {i : ℕ} {e : End} → Arrived i e → owed_by e ≡ some i
 arrived_owes (is_arrived q) = ap some q
 
 arrived_owing : {i : ℕ} {e : End} → Arrived i e → owing e ≡ true
@@ -196,11 +196,11 @@ answers : {dn up : Direction} (x : Side) {i : ℕ} {b : Bool} {l l' : Link} → 
     Arrived i (end_of (other x) l) → LastNames i (put_by (other x) l')
 answers x {i} {l = l} (put_block {p = p} s) a =
     let m = meaning (far x s).moved in
-    let e : acknowledgment m.w m.r ≡ some i = sym (ap owed_by_lem m.before) ∙ arrived_owes a in
+    let e : acknowledgment m.w m.r ≡ some i = sym (ap owed_by m.before) ∙ arrived_owes a in
     rw (m.joined, m.is, e) (joins_names (put_by (other x) l) i (some m.b))
 answers x {i} {l = l} (put_response s) a =
     let m = meaning (far x s).moved in
-    let e : acknowledgment true m.r ≡ some i = sym (ap owed_by_lem m.before) ∙ arrived_owes a in
+    let e : acknowledgment true m.r ≡ some i = sym (ap owed_by m.before) ∙ arrived_owes a in
     rw (m.joined, m.is, e) (joins_names (put_by (other x) l) i none)
 answers x (put_nothing s) a =
     let m = meaning (far x s).moved in

@@ -5,7 +5,7 @@ use Rattle.law.specs.Directions.{Direction}
 use Rattle.law.specs.Senders.{Message, Sender, Course, Block, Sends, Quiet}
 use Rattle.law.specs.Receivers.{Receiver, receiver}
 use Rattle.law.specs.Links.{Packet, packet, End, an_end, acknowledgment, Answer, Hears, Doing, submitted, withdrew, sent, responded, rested, heard, silent, collected, bare, told, refused, Move, submit, withdraw, tick_block, tick_response, tick_nothing, hear, hear_nothing, collect, collect_nothing, outcome, refuse, Side, air, ground, at, Link, link, Step, at_air, at_ground}
-use Rattle.law.specs.Truth.{other, end_of, waiting_in_lem}
+use Rattle.law.specs.Truth.{other, end_of, waiting_in}
 
 -- the direction of a side's blocks
 abbrev pub way : Direction → Direction → Side → Direction
@@ -88,13 +88,13 @@ abbrev pub uncovered : End → End
 uncovered (an_end s (receiver a pt ms) w) = an_end s (receiver a pt (drop 1 ms)) w
 
 pub record Collected (m : Message) (e : End) (i o : List Packet) (e' : End) (i' o' : List Packet) : Type 0 where
-  pub handed : waiting_in_lem e ≡ m ∷ waiting_in_lem e'
+  pub handed : waiting_in e ≡ m ∷ waiting_in e'
   pub after : e' ≡ uncovered e
   pub in_same : i' ≡ i
   pub joined : o' ≡ o
 
 pub record Bare (e : End) (i o : List Packet) (e' : End) (i' o' : List Packet) : Type 0 where
-  pub nothing : waiting_in_lem e ≡ []
+  pub nothing : waiting_in e ≡ []
   pub same : e' ≡ e
   pub in_same : i' ≡ i
   pub joined : o' ≡ o

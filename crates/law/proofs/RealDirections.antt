@@ -8,9 +8,9 @@ use Rattle.directions.specs.declared.marks.Joining.TheVariants.{Opens, Continues
 use Rattle.directions.specs.Rings.{RingRule}
 use Rattle.directions.specs.TextRules.{TextRule, Joins, down_ring, up_ring, down_text, up_text, down_joining}
 use Rattle.law.specs.Directions.{Place, opens, continues, Sound}
-use Rattle.law.specs.Real.{place_of, mark_of_lem, part_of, turn_of, direction_of, RealDirections}
+use Rattle.law.specs.Real.{place_of, mark_of, part_of, turn_of, direction_of, RealDirections}
 
-marks_back : (m : Mark) → mark_of_lem (place_of m) ≡ m
+marks_back : (m : Mark) → mark_of (place_of m) ≡ m
 marks_back Plain = refl
 marks_back (Numbered o n l) = refl
 
@@ -19,15 +19,15 @@ pub sound_from : (r : RingRule) (t : TextRule) (o : ℕ) → 2 ≤ r.size → Jo
 sound_from r t o two j = record {
   two = two;
   follows = λ n i.
-      ap (λ (m : Mark). turn_of (t.joining (Some m) (mark_of_lem (place_of (t.mark o n (suc i)))) true)) (marks_back (t.mark o n i)) ∙
+      ap (λ (m : Mark). turn_of (t.joining (Some m) (mark_of (place_of (t.mark o n (suc i)))) true)) (marks_back (t.mark o n i)) ∙
       ap (λ (m : Mark). turn_of (t.joining (Some (t.mark o n i)) m true)) (marks_back (t.mark o n (suc i))) ∙ ap turn_of (j.follows o n i);
   apart = apart;
   alone = λ n b. ap (λ (m : Mark). turn_of (t.joining None m b)) (marks_back (t.mark o n 0)) ∙ ap turn_of (j.begins o n b);
 }
   where
-    apart : (n : ℕ) (p : Option Place) → turn_of (t.joining (part_of p) (mark_of_lem (place_of (t.mark o n 0))) false) ≡ opens
+    apart : (n : ℕ) (p : Option Place) → turn_of (t.joining (part_of p) (mark_of (place_of (t.mark o n 0))) false) ≡ opens
     apart n none = ap (λ (m : Mark). turn_of (t.joining None m false)) (marks_back (t.mark o n 0)) ∙ ap turn_of (j.begins o n false)
-    apart n (some q) = ap (λ (m : Mark). turn_of (t.joining (Some (mark_of_lem q)) m false)) (marks_back (t.mark o n 0)) ∙ ap turn_of (j.parts (mark_of_lem q) o n)
+    apart n (some q) = ap (λ (m : Mark). turn_of (t.joining (Some (mark_of q)) m false)) (marks_back (t.mark o n 0)) ∙ ap turn_of (j.parts (mark_of q) o n)
 
 -- a downlink's letter after the newest one continues
 letters : (o m i : ℕ) → down_joining (Some (Numbered o m (65 + i))) (Numbered o m (65 + suc i)) true ≡ Continues

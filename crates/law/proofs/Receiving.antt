@@ -3,7 +3,7 @@
 use Rattle.std.proofs.Common.{◌≡◌, ℕ, suc, ◌%◌, ◌<◌, ◌≤◌, true, List, [], ◌∷◌, ◌++◌, reverse, length, sym, refl, ap, ◌∙◌, subst, inl, inr, append_assoc, append-nil, le_refl, arith}
 use mathlib.Core.List.{reverse_aux}
 use mathlib.Core.Option.{Option, none, some, some-injective}
-use Rattle.law.specs.Directions.{Direction, Sound, Turn, opens, is_next_lem}
+use Rattle.law.specs.Directions.{Direction, Sound, Turn, opens, is_next}
 use Rattle.law.specs.Senders.{Text, Message, message, Status, Course, course, number_of, Phase, Block, block_of}
 use Rattle.law.specs.Receivers.{Part, closed, open_part, Receiver, receiver, place_of, identifier, joined, joining, Took, stray, seventeenth, Takes, takes_duplicate, takes_part, takes_last, refuses_stray, refuses_seventeenth, refuses_crowded}
 use Rattle.law.specs.Links.{Doing}
@@ -12,7 +12,7 @@ use Rattle.law.proofs.Ring.{Names, names, is_next_yes, is_next_no, names_new}
 use Rattle.law.proofs.Tracks.{Track, track_le, track_low, track_high, at_front, front}
 use Rattle.law.proofs.Numbers.{Rising, rising_widen, rising_add, among_left, among_last, among_split, bears_add, length_rev}
 use Rattle.law.proofs.Logs.{Log, Chain, Lasted, Logged, Over, chain_over, chain_back, over_shut, no_later}
-use Rattle.law.proofs.Ways.{Window, Stands, part_after_lem, Received, Statuses, Way, with_forth}
+use Rattle.law.proofs.Ways.{Window, Stands, part_after, Received, Statuses, Way, with_forth}
 
 -- nothing more was numbered
 pub same_numbers : (ns : List ℕ) → Extends ns ns
@@ -45,9 +45,9 @@ module _ (d : Direction) (S : Sound d) where
       two : 2 ≤ d.ring
       two = S.two
 
-      go : (w : Option Course) → log r ≡ w → pt ≡ part_after_lem d w → d.turn (is_next_lem d.ring o (q % d.ring)) (place_of pt) (d.place n 0) ≡ opens
-      go none f p = rw p (S.alone n (is_next_lem d.ring o (q % d.ring)))
-      go (some (course m j es x [])) f p = rw p (S.alone n (is_next_lem d.ring o (q % d.ring)))
+      go : (w : Option Course) → log r ≡ w → pt ≡ part_after d w → d.turn (is_next d.ring o (q % d.ring)) (place_of pt) (d.place n 0) ≡ opens
+      go none f p = rw p (S.alone n (is_next d.ring o (q % d.ring)))
+      go (some (course m j es x [])) f p = rw p (S.alone n (is_next d.ring o (q % d.ring)))
       go (some (course m j es x (y ∷ ys))) f p =
           let far : q ≡ suc r → ⊥ = λ h. over_shut (subst Over f (chain_over (at_next L e h) tt)) tt in
           let b = no_later L q (course n l [] t us) e in
@@ -57,9 +57,9 @@ module _ (d : Direction) (S : Sound d) where
       let near = L.near q n l x t ds us e in
       let h : q ≡ suc r = omega arith in
       let back : log r ≡ some (course n l ds x (t ∷ us)) = chain_back (at_next L e h) in
-      let p : pt ≡ open_part (d.place n (length ds)) l (x ∷ ds) = rc.part ∙ ap (part_after_lem d) back in
-      let yes-next : is_next_lem d.ring o (q % d.ring) ≡ true =
-      subst (λ (j : ℕ). is_next_lem d.ring o (j % d.ring) ≡ true) (sym h) (is_next_yes (omega arith) (L.past r (course n l ds x (t ∷ us)) back) nm) in
+      let p : pt ≡ open_part (d.place n (length ds)) l (x ∷ ds) = rc.part ∙ ap (part_after d) back in
+      let yes-next : is_next d.ring o (q % d.ring) ≡ true =
+      subst (λ (j : ℕ). is_next d.ring o (j % d.ring) ≡ true) (sym h) (is_next_yes (omega arith) (L.past r (course n l ds x (t ∷ us)) back) nm) in
       rw (yes-next, p, S.follows n (length ds))
 
   module _ {h : List Doing} {g : List Message} {cl : ℕ → Status} {ph : Phase} {p : Option ℕ} {s : ℕ} {fs : List (Option Block)}

@@ -6,7 +6,7 @@ use mathlib.Core.Option.{Option, none, some}
 use native.Mathlib.Nat.{div-add-mod, mod_self, suc-mod}
 use native.Mathlib.Decide.{dec_le, ℕ_discrete}
 use borrow.Author.Tests.{eqb-false}
-use Rattle.law.specs.Directions.{next, after, fresh, cost, is_next_lem}
+use Rattle.law.specs.Directions.{next, after, fresh, cost, is_next}
 
 -- p ≤ q < p + N, with one identifier: one position
 pub window : (N p q : ℕ) → p ≤ q → q < p + N → p % N ≡ q % N → p ≡ q
@@ -45,12 +45,12 @@ fresh_is {N} {o} {p} false pos w = after_is pos w ∙ ap (λ (j : ℕ). j % N) (
 fresh_is {N} {o} {p} true pos w = ap (next N) (after_is pos w) ∙ next_is N (suc p) pos ∙ ap (λ (j : ℕ). j % N) (omega arith)
 
 -- the position after the last accepted has the next identifier
-pub is_next_yes : {N : ℕ} {o : Option ℕ} {r : ℕ} → 1 ≤ N → N ≤ r → Names N o r → is_next_lem N o (suc r % N) ≡ true
+pub is_next_yes : {N : ℕ} {o : Option ℕ} {r : ℕ} → 1 ≤ N → N ≤ r → Names N o r → is_next N o (suc r % N) ≡ true
 is_next_yes {N} pos l (not_yet {p = r} e) = absurd (omega arith)
 is_next_yes {N} pos l (names {i = i} {p = r} m e) = eq-eqb (suc r % N) (next N i) (sym (next_is N r pos) ∙ ap (next N) (sym e))
 
 -- a position two or more past the last accepted, in a window shorter than the ring, has not
-pub is_next_no : {N : ℕ} {o : Option ℕ} {r : ℕ} (q : ℕ) → 1 ≤ N → suc r < q → q < r + N → Names N o r → is_next_lem N o (q % N) ≡ false
+pub is_next_no : {N : ℕ} {o : Option ℕ} {r : ℕ} (q : ℕ) → 1 ≤ N → suc r < q → q < r + N → Names N o r → is_next N o (q % N) ≡ false
 is_next_no {N} q pos l m (not_yet {p = r} e) = refl
 is_next_no {N} q pos l m (names {i = i} {p = r} u e) =
     ne_eqb (q % N) (next N i) (λ f.

@@ -7,7 +7,7 @@ use Rattle.law.specs.Directions.{Direction, Sound}
 use Rattle.law.specs.Senders.{Message, Status, unsettled, delivered, not_delivered, in_doubt, Phase, Block, Sender, sender}
 use Rattle.law.specs.Receivers.{Part, receiver, Took}
 use Rattle.law.specs.Links.{Packet, End, an_end, took, Doing, heard, told, collect, collect_nothing, Side, air, ground, Event, at, Link, link, Step, at_air, at_ground, Run}
-use Rattle.law.specs.Truth.{other, end_of, waiting_in_lem, called, calls, HandsOut, no_more_out, one_out, WaitingComeOut, completed, Made, Withdrawn, Among, Bears, TrueOf, TruthAndOrder, RefusalsNever}
+use Rattle.law.specs.Truth.{other, end_of, waiting_in, called, calls, HandsOut, no_more_out, one_out, WaitingComeOut, completed, Made, Withdrawn, Among, Bears, TrueOf, TruthAndOrder, RefusalsNever}
 use Rattle.law.proofs.Numbers.{rising_rises, rising_among, rising_low}
 use Rattle.law.proofs.Ways.{Way}
 use Rattle.law.proofs.Receiving.{Never, never_stray, never_seventeenth}
@@ -89,7 +89,7 @@ pub refusals_never : RefusalsNever
 refusals_never dn up D U h l r x n k = (never_made D U x n k never_stray r, never_made D U x n k never_seventeenth r)
 
 -- collects until one finds nothing hand out what waits
-out_all : {dn up : Direction} (y : Side) {l l' : Link} {ms : List Message} → HandsOut dn up y l ms l' → ms ≡ waiting_in_lem (end_of y l)
+out_all : {dn up : Direction} (y : Side) {l l' : Link} {ms : List Message} → HandsOut dn up y l ms l' → ms ≡ waiting_in (end_of y l)
 out_all air (no_more_out (at_air collect_nothing)) = refl
 out_all ground (no_more_out (at_ground collect_nothing)) = refl
 out_all air (one_out {m = m} (at_air collect) o) = ap (λ (ms : List Message). m ∷ ms) (out_all air o)
@@ -107,7 +107,7 @@ module _ (dn up : Direction) where
   out_ground s o pt [] w a d u = (link a (an_end s (receiver o pt []) w) d u, no_more_out (at_ground collect_nothing))
   out_ground s o pt (m ∷ ms) w a d u = let r = out_ground s o pt ms w a d u in (r.0, one_out (at_ground collect) r.1)
 
-  out_some : (y : Side) (l : Link) → (l' : Link) × HandsOut dn up y l (waiting_in_lem (end_of y l)) l'
+  out_some : (y : Side) (l : Link) → (l' : Link) × HandsOut dn up y l (waiting_in (end_of y l)) l'
   out_some air (link (an_end s (receiver o pt ms) w) g d u) = out_air s o pt ms w g d u
   out_some ground (link a (an_end s (receiver o pt ms) w) d u) = out_ground s o pt ms w a d u
 

@@ -36,10 +36,10 @@ abbrev pub Marks : ℕ → ℕ → ℕ → Type 0
 Marks N q i = i ≡ q % N
 
 -- the part that is open after the block at the last accepted position
-abbrev pub part_after_lem : Direction → Option Course → Part
-part_after_lem d none = closed
-part_after_lem d (some (course n l ds t [])) = closed
-part_after_lem d (some (course n l ds t (u ∷ us))) = open_part (d.place n (length ds)) l (t ∷ ds)
+abbrev pub part_after : Direction → Option Course → Part
+part_after d none = closed
+part_after d (some (course n l ds t [])) = closed
+part_after d (some (course n l ds t (u ∷ us))) = open_part (d.place n (length ds)) l (t ∷ ds)
 
 -- a last block that was accepted has its number among those completed
 abbrev pub Got : Option Course → List ℕ → Type 0
@@ -49,7 +49,7 @@ Got (some (course n l ds t (u ∷ us))) ns = Unit {0}
 
 -- the receiver, by what stands at the last accepted position
 pub record Received (d : Direction) (here : Option Course) (pt : Part) (ns : List ℕ) : Type 0 where
-  pub part : pt ≡ part_after_lem d here
+  pub part : pt ≡ part_after d here
   pub rising : Rising 1 ns (top here)
   pub got : Got here ns
 

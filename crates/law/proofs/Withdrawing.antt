@@ -135,13 +135,13 @@ module _ {d : Direction} {h : List Doing} {g : List Message} {cl : ℕ → Statu
     ];
   }
 
-  withdrawn_as_lem : (ph' : Phase) → Phased d.ring (settle cl n st) W.k W.c s W.log ph' →
+  withdrawn_as : (ph' : Phase) → Phased d.ring (settle cl n st) W.k W.c s W.log ph' →
       Way d (withdrew n ∷ h) g (settle cl n st) ph' p s fs o pt ks ms ns
-  withdrawn_as_lem ph' f = renew W W.logged f W.forth W.back W.borne withdrawn_statuses withdrawn_told
+  withdrawn_as ph' f = renew W W.logged f W.forth W.back W.borne withdrawn_statuses withdrawn_told
 
   -- of the message under way: one identifier is to be passed over
   withdrawn_begun : n ≡ W.k → s + 2 ≤ d.ring - 1 → Way d (withdrew n ∷ h) g (settle cl n st) (idle true) p s fs o pt ks ms ns
-  withdrawn_begun e l = withdrawn_as_lem (idle true)
+  withdrawn_begun e l = withdrawn_as (idle true)
       (marked (omega arith) (inl (λ f. judged_settled J (sym (settle_here cl n st) ∙ ap (settle cl n st) e ∙ f))))
 
 -- a message under way whose current block has not gone out
@@ -210,6 +210,6 @@ module _ {d : Direction} {h : List Doing} {g : List Message} {cl : ℕ → Statu
       Way d (withdrew n ∷ h) g (settle cl n not_delivered) ph p s fs o pt ks ms ns
   withdraw_unbegun {ph} {n} U fresh W =
       let l = not_begun W.phased W.statuses U fresh in
-      withdrawn_as_lem W n not_delivered U.open_yet
+      withdrawn_as W n not_delivered U.open_yet
       (inl (refl, λ x. let y = W.logged.begun x.place (course n x.label x.before x.text []) x.is in omega arith))
       ph (phased_else not_delivered l W.phased)

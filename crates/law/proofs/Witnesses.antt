@@ -180,7 +180,7 @@ module _ {dn up d b : Direction} {x : Side} (sound : Sound d) (seat : Seat dn up
     submitted_it = p;
     handed_it_out = q;
     called_delivered = r;
-    block_put_lem = last_put;
+    block_put = last_put;
     block_twice = u;
     answer_put = last_answer;
     answer_twice = v;

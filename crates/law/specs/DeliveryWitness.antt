@@ -17,8 +17,8 @@ pub record Delivers (dn up : Direction) (x : Side) : Type 0 where
   pub handed_it_out : handed_out (calls (other x) history) ≡ text ∷ []
   pub called_delivered : called x reached 1 ≡ delivered
   -- two copies of its last block joined the path, and a spoiled string; so did its acknowledgment
-  pub block_put_lem : Packet
-  pub block_twice : Made (sent true 1 1 block_put_lem (block_put_lem ∷ spoiled ∷ block_put_lem ∷ [])) (calls x history)
+  pub block_put : Packet
+  pub block_twice : Made (sent true 1 1 block_put (block_put ∷ spoiled ∷ block_put ∷ [])) (calls x history)
   pub answer_put : Packet
   pub answer_twice : Made (responded true answer_put (answer_put ∷ spoiled ∷ answer_put ∷ [])) (calls (other x) history)
 

@@ -50,6 +50,6 @@ cost false = 1
 cost true = 2
 
 -- is i the next identifier after the one last accepted?
-abbrev pub is_next_lem : ℕ → Option ℕ → ℕ → Bool
-is_next_lem n none i = false
-is_next_lem n (some j) i = i == next n j
+abbrev pub is_next : ℕ → Option ℕ → ℕ → Bool
+is_next n none i = false
+is_next n (some j) i = i == next n j

@@ -16,13 +16,13 @@ abbrev pub place_of : Mark → Place
 place_of Plain = unsaid
 place_of (Numbered o n l) = said o n l
 
-abbrev pub mark_of_lem : Place → Mark
-mark_of_lem unsaid = Plain
-mark_of_lem (said o n l) = Numbered o n l
+abbrev pub mark_of : Place → Mark
+mark_of unsaid = Plain
+mark_of (said o n l) = Numbered o n l
 
 abbrev pub part_of : Option Place → std.Option Mark
 part_of none = None
-part_of (some p) = Some (mark_of_lem p)
+part_of (some p) = Some (mark_of p)
 
 abbrev pub turn_of : Joining → Turn
 turn_of Opens = opens
@@ -34,7 +34,7 @@ abbrev pub direction_of : RingRule → TextRule → ℕ → Direction
 direction_of r t o = record {
   ring = r.size;
   place = λ n i. place_of (t.mark o n i);
-  turn = λ next part block. turn_of (t.joining (part_of part) (mark_of_lem block) next);
+  turn = λ next part block. turn_of (t.joining (part_of part) (mark_of block) next);
 }
 
 -- downlinks and uplinks keep the laws of a direction

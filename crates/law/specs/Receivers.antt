@@ -2,7 +2,7 @@
 -- Assumes nothing.
 use Rattle.std.specs.Prelude.{◌≡◌, ℕ, ◌<◌, ◌≤◌, Bool, true, false, List, [], ◌∷◌, ◌++◌, reverse, length, ◌≢◌}
 use Rattle.std.proofs.Math.Option.{Option, none, some}
-use Rattle.law.specs.Directions.{Direction, Place, Turn, opens, continues, neither, is_next_lem}
+use Rattle.law.specs.Directions.{Direction, Place, Turn, opens, continues, neither, is_next}
 use Rattle.law.specs.Senders.{Text, Message, message, Block, block}
 
 -- a part message: the place of its newest block, its first label, its texts (newest first)
@@ -37,7 +37,7 @@ pub data Took : Type 0 where
 
 -- what the rule makes of a block at a receiver that last accepted o and has this part
 abbrev pub joining : Direction → Option ℕ → Part → Block → Option (Text × List Text)
-joining d o pt (block i q l t e) = joined (d.turn (is_next_lem d.ring o i) (place_of pt) q) pt l t
+joining d o pt (block i q l t e) = joined (d.turn (is_next d.ring o i) (place_of pt) q) pt l t
 
 -- a block's identifier
 abbrev pub identifier : Block → ℕ

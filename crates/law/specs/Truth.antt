@@ -22,8 +22,8 @@ abbrev pub sender_in : End → Sender
 sender_in (an_end s r w) = s
 
 -- the completed messages that wait at an end
-abbrev pub waiting_in_lem : End → List Message
-waiting_in_lem (an_end s (receiver o pt ms) w) = ms
+abbrev pub waiting_in : End → List Message
+waiting_in (an_end s (receiver o pt ms) w) = ms
 
 -- the sender at a side
 abbrev pub sender_of : Side → Link → Sender
@@ -88,7 +88,7 @@ handed_out (e ∷ h) = add_out (passing e) (handed_out h)
 
 -- the messages completed at a side: those handed out, then those that wait
 abbrev pub completed : Side → List Event → Link → List Message
-completed y h l = handed_out (calls y h) ++ waiting_in_lem (end_of y l)
+completed y h l = handed_out (calls y h) ++ waiting_in (end_of y l)
 
 -- collects until one finds nothing, and the messages that they hand out
 pub data HandsOut (dn up : Direction) (y : Side) : Link → List Message → Link → Type 0 where
@@ -99,8 +99,8 @@ pub data HandsOut (dn up : Direction) (y : Side) : Link → List Message → Lin
 -- those that wait are those that collects would hand out, if called until one finds nothing
 abbrev pub WaitingComeOut : Type 0
 WaitingComeOut = (dn up : Direction) (y : Side) (l : Link) →
-    ((ms : List Message) (l' : Link) → HandsOut dn up y l ms l' → ms ≡ waiting_in_lem (end_of y l)) ×
-    ((l' : Link) × HandsOut dn up y l (waiting_in_lem (end_of y l)) l')
+    ((ms : List Message) (l' : Link) → HandsOut dn up y l ms l' → ms ≡ waiting_in (end_of y l)) ×
+    ((l' : Link) × HandsOut dn up y l (waiting_in (end_of y l)) l')
 
 -- a call is among those made
 pub data Made (e : Doing) : List Doing → Type 0 where

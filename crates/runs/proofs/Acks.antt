@@ -19,17 +19,17 @@ use Rattle.runs.proofs.Senders.{SenderIs}
 use Rattle.runs.proofs.Counting.{counted_box, CountIs, count_is}
 
 -- a phase is that of a block gone out
-abbrev is_out_lem : Phase → Bool
-is_out_lem (idle m) = false
-is_out_lem (ready z) = false
-is_out_lem (out z) = true
+abbrev is_out : Phase → Bool
+is_out (idle m) = false
+is_out (ready z) = false
+is_out (out z) = true
 
-out_same : (room : ℕ) (m : Bool) (cs : List (Stored Cell)) → is_out_lem (phase_of room m cs) ≡ current_out cs
+out_same : (room : ℕ) (m : Bool) (cs : List (Stored Cell)) → is_out (phase_of room m cs) ≡ current_out cs
 out_same room m [] = refl
 out_same room m (c ∷ cs) = go c.«record».stage (out_same room m cs)
   where
-    go : (s : Stage) → is_out_lem (phase_of room m cs) ≡ current_out cs →
-        is_out_lem (phase_by room (stored (record { number = c.«record».number; label = c.«record».label; stage = s }) c.text) s m (phase_of room m cs)) ≡
+    go : (s : Stage) → is_out (phase_of room m cs) ≡ current_out cs →
+        is_out (phase_by room (stored (record { number = c.«record».number; label = c.«record».label; stage = s }) c.text) s m (phase_of room m cs)) ≡
         current_out (stored (record { number = c.«record».number; label = c.«record».label; stage = s }) c.text ∷ cs)
     go (Unsettled zero false) ih = refl
     go (Unsettled (suc a) false) ih = refl
@@ -37,7 +37,7 @@ out_same room m (c ∷ cs) = go c.«record».stage (out_same room m cs)
     go (Settled o) ih = ih
 
 -- what a current block tells
-named_current : {g : List Message} {c : ℕ → Status} {ph : Phase} {p : Option ℕ} {s i : ℕ} → Current (sender g c ph p s) i → (p ≡ some i) × (is_out_lem ph ≡ true)
+named_current : {g : List Message} {c : ℕ → Status} {ph : Phase} {p : Option ℕ} {s i : ℕ} → Current (sender g c ph p s) i → (p ≡ some i) × (is_out ph ≡ true)
 named_current current = (refl, refl)
 
 abbrev filled : Option ℕ → ℕ
@@ -78,7 +78,7 @@ module _ (room : ℕ) (C : Counted room) (r : RingRule) where
 
     -- a block that has not gone out is not current
     not_out : (i : ℕ) → current_out o.cells ≡ false → Current (sender g c ph p s) i → ⊥
-    not_out i e k = clash (sym e ∙ sym (out_same room o.passing o.cells) ∙ ap is_out_lem (sym S.phase) ∙ (named_current k).1)
+    not_out i e k = clash (sym e ∙ sym (out_same room o.passing o.cells) ∙ ap is_out (sym S.phase) ∙ (named_current k).1)
 
   -- an acknowledgment, told whether it names the identifier last put, and whether the current block has gone out
   tested : {told : ℕ → Status} {o : Outbox} {g : List Message} {c : ℕ → Status} {ph : Phase} {j s : ℕ} → SenderIs r room told o g c ph (some j) s →

@@ -31,7 +31,7 @@ joined_aux (t ∷ ts) acc = joined_aux ts (t ∷ acc) ∙ sym (append_assoc (joi
 pub joined_reverse : (ts : List Text) → joined_up (reverse ts) ≡ joined_back ts
 joined_reverse ts = joined_aux ts [] ∙ append-nil (joined_back ts)
 
-pub marks_back : (m : Mark) → real.mark_of_lem (real.place_of m) ≡ m
+pub marks_back : (m : Mark) → real.mark_of (real.place_of m) ≡ m
 marks_back Plain = refl
 marks_back (Numbered o n l) = refl
 

@@ -62,7 +62,7 @@ same_index r c d i j h k = go (eqb i j) refl
 
 -- told whether it is the next, ends and model agree
 pub is_next_same : (r : RingRule) → 2 ≤ r.size → {o : std.Option ℕ} {p : Option ℕ} (c i : ℕ) → Same r o p → Is r c i →
-    hearing.is_next r o c ≡ law.is_next_lem r.size p i
+    hearing.is_next r o c ≡ law.is_next r.size p i
 is_next_same r two c i no_one h = refl
 is_next_same r two c i (one {c = d} {i = j} k) h = same_index r c (next r d) i (law.next r.size j) h (next_is r two d j k)
 

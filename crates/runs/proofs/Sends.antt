@@ -37,16 +37,16 @@ none_one : (c : Stored Cell) → ◌≡◌ {A = std.Option (Stored Cell)} None (
 none_one c e = let z : ◌≡◌ {A = ℕ} 0 1 = ap filled e in absurd (omega (arith, z))
 
 -- the cell at a place is good, and holds the message that bears its number
-abbrev or_else_lem : std.Option (Stored Cell) → Stored Cell → Stored Cell
-or_else_lem None c = c
-or_else_lem (Some b) c = b
+abbrev cell_or_else : std.Option (Stored Cell) → Stored Cell → Stored Cell
+cell_or_else None c = c
+cell_or_else (Some b) c = b
 
 pub holds_at : (room : ℕ) (g : List Message) (cs : List (Stored Cell)) (k : ℕ) (c : Stored Cell) → Holds room g cs → slice_get cs k ≡ Some c →
     GoodCell room c × (numbered g c.«record».number ≡ some (message c.«record».label.0 (cuts room c.text)))
 holds_at room g [] k c h e = absurd (none_one c e)
 holds_at room g (b ∷ cs) zero c h e =
     subst (λ (x : Stored Cell). GoodCell room x × (numbered g x.«record».number ≡ some (message x.«record».label.0 (cuts room x.text))))
-    (ap (λ (x : std.Option (Stored Cell)). or_else_lem x c) e) (h.0, h.1)
+    (ap (λ (x : std.Option (Stored Cell)). cell_or_else x c) e) (h.0, h.1)
 holds_at room g (b ∷ cs) (suc k) c h e = holds_at room g cs k c h.2 e
 
 celled_within : (lo hi n : ℕ) (cs : List (Stored Cell)) → Between lo hi cs → Celled n cs → n ≤ hi

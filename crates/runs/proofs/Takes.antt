@@ -15,7 +15,7 @@ use Rattle.calls.specs.declared.types.Heard.{Heard}
 use Rattle.calls.specs.declared.types.Heard.TheVariants as heard
 use Rattle.ends.specs.Model.{Ways, Inbox}
 use Rattle.ends.specs.Hearing as hearing
-use Rattle.law.specs.Directions.{is_next_lem, Direction}
+use Rattle.law.specs.Directions.{is_next, Direction}
 use Rattle.law.specs.Real as real
 use Rattle.law.specs.Senders as sender
 use Rattle.law.specs.Senders.{Text, Message}
@@ -55,10 +55,10 @@ module _ (w : Ways) (originator : ℕ) (two : 2 ≤ w.inn.own.size) where
   pub record TakenAs (b : hearing.Block) (k : ℕ) (o : Option ℕ) (pt : law.Part) (ms : List Message) (owed : Bool) (after : hearing.Answered) : Type 0 where
     pub took : law.Took
     pub accepted_after : Option ℕ
-    pub part_after_lem : law.Part
+    pub part_after : law.Part
     pub waiting_after : List Message
-    pub takes : law.Takes heard_direction (law.receiver o pt ms) (law_block b k) took (law.receiver accepted_after part_after_lem waiting_after)
-    pub is : ReceiverIs w.inn.own after.inbox accepted_after part_after_lem waiting_after (law.owes took owed)
+    pub takes : law.Takes heard_direction (law.receiver o pt ms) (law_block b k) took (law.receiver accepted_after part_after waiting_after)
+    pub is : ReceiverIs w.inn.own after.inbox accepted_after part_after waiting_after (law.owes took owed)
     pub answer : after.answer ≡ answer_of took
 
   module _ {i : Inbox} {o : Option ℕ} {pt : law.Part} {ms : List Message} {owed : Bool} (R : ReceiverIs w.inn.own i o pt ms owed) (b : hearing.Block) (k : ℕ) where
@@ -68,7 +68,7 @@ module _ (w : Ways) (originator : ℕ) (two : 2 ≤ w.inn.own.size) where
     refuses x f e a t = record {
       took = x;
       accepted_after = o;
-      part_after_lem = pt;
+      part_after = pt;
       waiting_after = ms;
       takes = t;
       is = record { accepted = R.accepted; part = R.part; waiting = R.waiting; owing = R.owing ∙ sym e };
@@ -79,8 +79,8 @@ module _ (w : Ways) (originator : ℕ) (two : 2 ≤ w.inn.own.size) where
     turn_same : Is w.inn.own b.identifier k →
         law.joining heard_direction o pt (law_block b k) ≡ law.joined (real.turn_of (hearing.joining_of w i b)) pt b.label.0 (drop w.inn.text.opening b.text)
     turn_same h =
-        ap (λ (x : std.Option Mark). law.joined (real.turn_of (w.inn.text.joining x (real.mark_of_lem (real.place_of (w.inn.text.reads b.text))) (is_next_lem w.inn.own.size o k))) pt b.label.0 (drop w.inn.text.opening b.text)) (mark_same R.part) ∙
-        ap (λ (x : Mark). law.joined (real.turn_of (w.inn.text.joining (hearing.mark_of i.part) x (is_next_lem w.inn.own.size o k))) pt b.label.0 (drop w.inn.text.opening b.text)) (marks_back (w.inn.text.reads b.text)) ∙
+        ap (λ (x : std.Option Mark). law.joined (real.turn_of (w.inn.text.joining x (real.mark_of (real.place_of (w.inn.text.reads b.text))) (is_next w.inn.own.size o k))) pt b.label.0 (drop w.inn.text.opening b.text)) (mark_same R.part) ∙
+        ap (λ (x : Mark). law.joined (real.turn_of (w.inn.text.joining (hearing.mark_of i.part) x (is_next w.inn.own.size o k))) pt b.label.0 (drop w.inn.text.opening b.text)) (marks_back (w.inn.text.reads b.text)) ∙
         ap (λ (x : Bool). law.joined (real.turn_of (w.inn.text.joining (hearing.mark_of i.part) (w.inn.text.reads b.text) x)) pt b.label.0 (drop w.inn.text.opening b.text)) (sym (is_next_same w.inn.own two b.identifier k R.accepted h))
 
     -- a duplicate
@@ -88,7 +88,7 @@ module _ (w : Ways) (originator : ℕ) (two : 2 ≤ w.inn.own.size) where
     duplicate_is e = record {
       took = law.duplicate;
       accepted_after = o;
-      part_after_lem = pt;
+      part_after = pt;
       waiting_after = ms;
       takes = subst (λ (x : Option ℕ). law.Takes heard_direction (law.receiver x pt ms) (law_block b k) law.duplicate (law.receiver x pt ms)) (sym e) law.takes_duplicate;
       is = record { accepted = R.accepted; part = R.part; waiting = R.waiting; owing = refl };
@@ -120,7 +120,7 @@ module _ (w : Ways) (originator : ℕ) (two : 2 ≤ w.inn.own.size) where
             record {
               took = law.complete;
               accepted_after = some k;
-              part_after_lem = law.closed;
+              part_after = law.closed;
               waiting_after = ms ++ sender.message p.«record».label.0 (reverse ts) ∷ [];
               takes = subst (λ (z : Bool). law.Takes heard_direction (law.receiver o pt ms) (sender.block k (real.place_of p.«record».mark) b.label.0 (drop w.inn.text.opening b.text) z) law.complete
                   (law.receiver (some k) law.closed (ms ++ sender.message p.«record».label.0 (reverse ts) ∷ []))) (sym l) (law.takes_last new joins few (omega (arith, v, q)));
@@ -147,7 +147,7 @@ module _ (w : Ways) (originator : ℕ) (two : 2 ≤ w.inn.own.size) where
         lasts few false l = record {
           took = law.part;
           accepted_after = some k;
-          part_after_lem = law.open_part (real.place_of p.«record».mark) p.«record».label.0 ts;
+          part_after = law.open_part (real.place_of p.«record».mark) p.«record».label.0 ts;
           waiting_after = ms;
           takes = subst (λ (z : Bool). law.Takes heard_direction (law.receiver o pt ms) (sender.block k (real.place_of p.«record».mark) b.label.0 (drop w.inn.text.opening b.text) z) law.part
               (law.receiver (some k) (law.open_part (real.place_of p.«record».mark) p.«record».label.0 ts) ms)) (sym l) (law.takes_part new joins few);

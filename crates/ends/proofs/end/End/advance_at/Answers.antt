@@ -17,9 +17,9 @@ unreachable-requires g c = plan_there (model c.args.self.now) c.args.index (sym 
 pub returns-then-is_out : goal.returns-then-is_out
 returns-then-is_out g c =
     moved_at (ways g) (model c.args.self.now) c.args.index c.in-Some.cell c.length_at-length.result c.block_count-blocks.result c.advanced.result
-    (outbox_of c.set_stage.new.self) (sym c.requires) (sym c.in-Some.ensures) (sym c.is_out_lem.ensures ∙ c.if-is_out.true)
+    (outbox_of c.set_stage.new.self) (sym c.requires) (sym c.in-Some.ensures) (sym c.is_out.ensures ∙ c.if-is_out.true)
     c.length_at-length.ensures c.block_count-blocks.ensures c.advanced.ensures c.set_stage.ensures
 
 pub returns-else-is_out : goal.returns-else-is_out
 returns-else-is_out g c =
-    kept_at (ways g) (model c.args.self.now) c.args.index c.in-Some.cell (sym c.requires) (sym c.in-Some.ensures) (sym c.is_out_lem.ensures ∙ c.if-is_out.false)
+    kept_at (ways g) (model c.args.self.now) c.args.index c.in-Some.cell (sym c.requires) (sym c.in-Some.ensures) (sym c.is_out.ensures ∙ c.if-is_out.false)

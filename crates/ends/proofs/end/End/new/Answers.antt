@@ -12,4 +12,4 @@ returns g c =
     (good, fresh_empty s (held m.cells) (held m.waiting) m.unused.0 m.unused.1)
 
 pub invariant_of-result : goal.invariant_of-result
-invariant_of-result g c = (waits_within c.args.settings c.in_default.ensures, tt)
+invariant_of-result g c = record { waits = waits_within c.args.settings c.in_default.ensures }

@@ -8,7 +8,7 @@ use Rattle.ends.proofs.end.End.plan.Goals as goal
 pub returns-in-Some : goal.returns-in-Some
 returns-in-Some g c =
     let m = model c.args.self.now in
-    record { value = c.plan_at_lem.ensures; within = planned m c.args.time _ c.plan_at_lem.ensures }
+    record { value = c.plan_at.ensures; within = planned m c.args.time _ c.plan_at.ensures }
 
 pub returns-in-None : goal.returns-in-None
 returns-in-None g c =

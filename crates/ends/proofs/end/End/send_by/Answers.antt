@@ -12,11 +12,11 @@ abbrev ways : given.Over → Ways
 ways g =
     record { out = record { own = g.O.Ring.ring; other = g.I.Ring.ring; text = g.O.Direction.text }; inn = record { own = g.I.Ring.ring; other = g.O.Ring.ring; text = g.I.Direction.text } }
 
-pub returns-in_err-put_block : goal.returns-in_err-put_block
-returns-in_err-put_block g c =
+pub returns-in_err-put_block-in-Fresh : goal.returns-in_err-put_block-in-Fresh
+returns-in_err-put_block-in-Fresh g c =
     let p = err_from_is_err_and c.from_residual.result c.from_residual.ensures.1 in
-    let h = c.in_err-put_block.ensures in
-    let x = c.in_err-put_block.field-0.0 in
+    let h = c.in_err-put_block-in-Fresh.ensures in
+    let x = c.in_err-put_block-in-Fresh.field-0.0 in
     let m = model c.args.self.now in
     let i = c.in-Fresh.index in
     let a = c.in-Fresh.acknowledged in
@@ -24,14 +24,14 @@ returns-in_err-put_block g c =
     (g.P.AirPath.sees c.args.path.now) (g.P.AirPath.sees c.put_block.new.path) (err_is c.from_residual.result p.0 x p.1 p.2) (sym c.in-Fresh.is ∙ c.requires.plan) c.requires.time h.0
     (subst (λ (j : ℕ). BlockRefused (ways g) m i a j x) c.fresh_identifier-identifier.ensures h.1)
 
-pub returns-in_err-put_block-2 : goal.returns-in_err-put_block-2
-returns-in_err-put_block-2 g c =
-    let p = err_from_is_err_and c.from_residual-in_err-put_block-2.result c.from_residual-in_err-put_block-2.ensures.1 in
-    let h = c.in_err-put_block-2.ensures in
-    let x = c.in_err-put_block-2.field-0.0 in
+pub returns-in_err-put_block-in-Again : goal.returns-in_err-put_block-in-Again
+returns-in_err-put_block-in-Again g c =
+    let p = err_from_is_err_and c.from_residual-in_err-put_block-in-Again.result c.from_residual-in_err-put_block-in-Again.ensures.1 in
+    let h = c.in_err-put_block-in-Again.ensures in
+    let x = c.in_err-put_block-in-Again.field-0.0 in
     let m = model c.args.self.now in
     let i = c.in-Again.index in
     let a = c.in-Again.acknowledged in
-    refused_by_lem g.P.AirPath.puts (ways g) m c.args.time c.args.draw (plan.Again i a) c.from_residual-in_err-put_block-2.result x
-    (g.P.AirPath.sees c.args.path.now) (g.P.AirPath.sees c.put_block-in-Again.new.path) (err_is c.from_residual-in_err-put_block-2.result p.0 x p.1 p.2) (sym c.in-Again.is ∙ c.requires.plan) c.requires.time h.0
+    refused_by_lem g.P.AirPath.puts (ways g) m c.args.time c.args.draw (plan.Again i a) c.from_residual-in_err-put_block-in-Again.result x
+    (g.P.AirPath.sees c.args.path.now) (g.P.AirPath.sees c.put_block-in-Again.new.path) (err_is c.from_residual-in_err-put_block-in-Again.result p.0 x p.1 p.2) (sym c.in-Again.is ∙ c.requires.plan) c.requires.time h.0
     (subst (λ (j : ℕ). BlockRefused (ways g) m i a j x) c.last_identifier-identifier.ensures h.1)
