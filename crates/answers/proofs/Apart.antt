@@ -1,5 +1,5 @@
 -- No two different results print alike.
-use Rattle.std.proofs.Common.{◌≡◌, ℕ, zero, suc, ◌+◌, ◌-◌, ◌/◌, ◌%◌, ◌^◌, ◌<◌, ◌≤◌, Bool, true, false, cond, ◌&&◌, eqb, ltb, leb, ◌⊎◌, List, [], ◌∷◌, ◌++◌, map, length, get_or, drop, Some, None, codes, decimal, Option, sym, refl, ap, ◌∙◌, subst, inl, inr, ⊎_elim, arith, length-append}
+use Rattle.std.proofs.Common.{◌≡◌, ℕ, ◌+◌, ◌%◌, ◌^◌, ◌<◌, ◌≤◌, Bool, true, false, cond, eqb, ltb, leb, List, [], ◌∷◌, ◌++◌, length, get_or, drop, Some, None, codes, decimal, Option, sym, refl, ap, ◌∙◌, subst, ⊎_elim, arith, length-append}
 use Rattle.std.specs.List.{flat_map, AllByRecursion as All}
 use Rattle.std.proofs.lemmas.Fmt.{decimal_by_steps, decimal_injective, decimal_nonempty}
 use Rattle.std.proofs.ByRecursion.{All-push}
@@ -11,7 +11,7 @@ use Rattle.blocks.specs.Legal.{Way, Sound, acknowledges}
 use Rattle.recordings.specs.declared.heading.Heading.{Heading}
 use Rattle.recordings.specs.declared.heading.Heading.TheVariants.{Down, Up}
 use Rattle.recordings.specs.Recorded.{letter}
-use Rattle.answers.specs.Printed.{Outcome, block, refused, unread, printed, escaped, acknowledged, placed, commas, detail, parts}
+use Rattle.answers.specs.Printed.{Outcome, block, refused, unread, escaped, acknowledged, placed, commas, parts}
 use Rattle.recordings.proofs.Back.{letter_apart}
 use Rattle.answers.specs.Laws.{way_of, Small, Possible, PrintedApart}
 

@@ -1,5 +1,5 @@
 -- The parts that are added one after another make the line.
-use Rattle.std.proofs.Common.{◌≡◌, ℕ, Bool, cond, List, [], ◌∷◌, ◌++◌, map, Some, None, codes, decimal, Option, sym, refl, ap, ◌∙◌, subst, append_assoc, Bor}
+use Rattle.std.proofs.Common.{◌≡◌, ℕ, Bool, cond, List, [], ◌∷◌, ◌++◌, map, Some, None, codes, decimal, Option, sym, ap, ◌∙◌, subst, append_assoc, Bor}
 use Rattle.std.specs.List.{flat_map}
 use Rattle.octets.specs.Parity.{character}
 use Rattle.directions.specs.declared.marks.Identifier.{Identifier}

@@ -1,11 +1,11 @@
 -- What an input line turns out to be can be told from its answer alone.
-use Rattle.std.proofs.Common.{◌≡◌, ℕ, suc, ◌+◌, ◌-◌, ◌^◌, ◌<◌, ◌≤◌, Bool, true, false, eqb, List, length, take, Some, None, Option, sym, refl, ap, ◌∙◌, ⊎_elim, arith}
+use Rattle.std.proofs.Common.{◌≡◌, ℕ, suc, ◌+◌, ◌<◌, ◌≤◌, Bool, true, false, eqb, List, length, take, Some, None, sym, refl, ap, ◌∙◌, ⊎_elim, arith}
 use Rattle.std.proofs.lemmas.List.{take_all}
 use Rattle.std.proofs.lemmas.Bool.{eqb-true, cases_lt}
 use Rattle.blocks.specs.Legal.{Way}
 use Rattle.blocks.specs.Reading.{Refusal, pick, LengthRefused, ParityRefused, DelimiterRefused, CheckRefused, HeadRefused, RestRefused}
 use Rattle.answers.specs.Printed.{Outcome, block, refused, unread}
-use Rattle.answers.specs.Laws.{way_of, Small, Possible}
+use Rattle.answers.specs.Laws.{way_of, Possible}
 use Rattle.answers.specs.Answered.{Is, AnswersApart}
 use Rattle.answers.proofs.Apart.{printed_apart}
 

@@ -1,17 +1,14 @@
 -- Each place has a character that is allowed after any other, so a string that keeps its rules so far goes on to a legal block.
 -- Assumes nothing.
-use Rattle.std.proofs.Common.{◌≡◌, ℕ, zero, suc, ◌+◌, ◌-◌, ◌<◌, ◌≤◌, Bool, true, false, cond, ◌&&◌, ◌||◌, eqb, ltb, leb, List, [], ◌∷◌, length, take, sym, refl, ap, ◌∙◌, subst, inl, inr, arith, lit<, lit≤}
+use Rattle.std.proofs.Common.{◌≡◌, ℕ, suc, ◌+◌, ◌-◌, ◌<◌, ◌≤◌, Bool, true, false, cond, eqb, ltb, leb, List, length, take, sym, refl, ap, ◌∙◌, subst, inl, inr, arith}
 use Rattle.std.proofs.lemmas.Bool.{eqb-true, cases_lt, cases_eq, cases_order, eq-eqb, ne_eqb, lt-ltb, le-ltb, le-leb, lt-leb, and_from}
-use Rattle.std.proofs.lemmas.Bool.Decides.{nat_tests}
-use Rattle.octets.specs.Parity.{character, octet, odd}
+use Rattle.octets.specs.Parity.{character, octet}
 use Rattle.octets.proofs.Laws.{octet_character}
 use Rattle.directions.specs.Rings.{RingRule, member, Cyclic}
-use Rattle.blocks.specs.Legal.{Way, at, text_allows, is_text, Legal}
-use Rattle.blocks.specs.Reading.{Outside}
-use Rattle.blocks.specs.Places.{ch, Kept, place_rule, head_rule, rest_rule, possible, is_response, Octets}
+use Rattle.blocks.specs.Legal.{Way, at, text_allows, is_text}
+use Rattle.blocks.specs.Places.{ch, Kept, place_rule, Octets}
 use Rattle.blocks.proofs.Strings.{string_of, string_length, string_at, front_same}
-use Rattle.blocks.proofs.Shapes.{Lawful, Shaped, twelve}
-use Rattle.blocks.proofs.Sounds.{text_rule, suffix_rule, start_rule, shaped_legal}
+use Rattle.blocks.proofs.Shapes.{Lawful, twelve}
 
 first_held : (r : RingRule) → Cyclic r → member r r.first ≡ true
 first_held r l = let m = l.many in and_from _ _ (le-leb r.first r.first (omega arith)) (lt-ltb r.first (r.first + r.size) (omega arith))

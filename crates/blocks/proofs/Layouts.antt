@@ -1,15 +1,14 @@
 -- Sound fields lay out characters that keep the rules of their places, and those make the fields again. Assumes nothing.
-use Rattle.std.proofs.Common.{◌≡◌, ℕ, zero, suc, ◌+◌, ◌-◌, ◌<◌, ◌≤◌, Bool, true, false, cond, ◌&&◌, ◌||◌, eqb, ltb, leb, List, [], ◌∷◌, ◌++◌, map, length, get_or, drop, Some, None, Option, sym, refl, ap, ◌∙◌, subst, inl, inr, arith, lit<, lit≤, length-append}
+use Rattle.std.proofs.Common.{◌≡◌, ℕ, suc, ◌+◌, ◌-◌, ◌<◌, ◌≤◌, Bool, true, false, ◌&&◌, ◌||◌, eqb, ltb, leb, List, [], ◌∷◌, ◌++◌, map, length, Some, None, Option, sym, refl, ap, ◌∙◌, subst, inl, inr, arith, lit≤, length-append}
 use Rattle.std.specs.List.{range_with_len}
 use Rattle.std.proofs.lemmas.List.FromFn.{length-map-range_with_len, get_or-map-range_with_len, fill_by_all}
 use Rattle.std.proofs.lemmas.List.{get_or-drop, get_or_append_left, get_or_at, ext_get_or}
-use Rattle.std.proofs.lemmas.Bool.{eqb-true, and_parts, cases_lt, cases_order, eq-eqb, ne_eqb, or_left, or_right, and_right, leb-true}
+use Rattle.std.proofs.lemmas.Bool.{and_parts, cases_lt, cases_order, eq-eqb, ne_eqb, or_left, or_right, leb-true}
 use Rattle.std.proofs.lemmas.Bool.Decides.{nat_tests}
 use Rattle.directions.specs.Rings.{RingRule, member, Cyclic}
-use Rattle.directions.specs.TextRules.{TextRule}
-use Rattle.blocks.specs.Fields.{Head, Fields, response, message, laid, tailed, suffix, acknowledgment_character}
-use Rattle.blocks.specs.Legal.{Way, at, acknowledges, is_label, text_allows, text_length, Sound, TextKept}
-use Rattle.blocks.specs.Places.{Kept, place_rule, possible, is_response, acknowledgment_of}
+use Rattle.blocks.specs.Fields.{Head, Fields, response, message, laid, suffix, acknowledgment_character}
+use Rattle.blocks.specs.Legal.{Way, at, acknowledges, is_label, text_allows, text_length, Sound}
+use Rattle.blocks.specs.Places.{place_rule, possible, is_response, acknowledgment_of}
 use Rattle.blocks.proofs.Steps.{range_more}
 use Rattle.blocks.proofs.Shapes.{Lawful, Shaped, twelve, head_at, fields_if, fields_at}
 use Rattle.blocks.proofs.Sounds.{text_rule, suffix_rule, start_rule}

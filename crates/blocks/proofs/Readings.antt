@@ -1,23 +1,21 @@
 -- What the tests of a string tell of the block that it is, or of its refusal. Assumes nothing.
-use Rattle.std.proofs.Common.{◌≡◌, ℕ, zero, suc, ◌+◌, ◌-◌, ◌<◌, ◌≤◌, Bool, true, false, cond, eqb, List, [], ◌∷◌, map, length, get_or, take, drop, Some, None, Option, sym, refl, ap, ◌∙◌, subst, inl, inr, arith, lit<, lit≤, length-drop, length-take}
+use Rattle.std.proofs.Common.{◌≡◌, ℕ, ◌+◌, ◌-◌, ◌<◌, ◌≤◌, Bool, true, eqb, List, [], ◌∷◌, map, length, take, drop, Some, None, sym, refl, ap, ◌∙◌, subst, inl, inr, arith, lit<, length-drop, length-take}
 use Rattle.std.specs.List.{range_with_len as counting}
 use Rattle.std.proofs.lemmas.List.FromFn.{length-map-range_with_len, get_or-map-range_with_len}
 use Rattle.std.proofs.lemmas.List.{length-map, get_or-map, get_or-take, get_or-drop, ext_get_or}
 use Rattle.std.proofs.lemmas.Bool.{cases_lt}
 use Rattle.octets.specs.Parity.{character, octet}
-use Rattle.directions.specs.declared.marks.Identifier.{Identifier}
 use Rattle.blocks.specs.declared.block.Block.{Block}
 use Rattle.blocks.specs.declared.block.Block.TheVariants.{Response, Message}
 use Rattle.blocks.specs.declared.fault.BlockFault.{BlockFault}
-use Rattle.blocks.specs.declared.fault.BlockFault.TheVariants.{Head, Rest}
+use Rattle.blocks.specs.declared.fault.BlockFault.TheVariants.{Rest}
 use Rattle.blocks.specs.declared.head.HeadRead.{HeadRead}
 use Rattle.blocks.specs.Fields as fields
 use Rattle.blocks.specs.Fields.{Fields, response, message, fields_read, written, enclosed, laid, named}
 use Rattle.blocks.specs.Faults.{number_of, place_of}
-use Rattle.blocks.specs.Legal.{Way, at, Sound}
+use Rattle.blocks.specs.Legal.{Way, Sound}
 use Rattle.blocks.specs.Reading.{Refusal, ReadAs, Parts, Framed}
 use Rattle.blocks.specs.Places.{ch, Kept, place_rule, is_response, acknowledgment_of, FrameKept, HeadKept, HeadBroken, RestTested, Assembled}
-use Rattle.blocks.proofs.Strings.{chars, string_of}
 use Rattle.blocks.proofs.Shapes.{Lawful, Shaped, head_at, fields_if, fields_at}
 use Rattle.blocks.proofs.Sounds.{shaped_fielded}
 use Rattle.blocks.proofs.Unlike.{head_any, head_unlike, head_some, impossible_unlike, rest_unlike}

@@ -1,15 +1,15 @@
 -- Characters that keep the rules of their places are those of sound fields. Assumes nothing.
-use Rattle.std.proofs.Common.{◌≡◌, ℕ, zero, suc, ◌+◌, ◌-◌, ◌<◌, ◌≤◌, Bool, true, false, cond, ◌&&◌, ◌||◌, eqb, ltb, leb, List, [], ◌∷◌, ◌++◌, map, length, get_or, Some, None, Option, sym, refl, ap, ◌∙◌, subst, inl, inr, add-zero, add-suc, suc-add, arith, lit<, lit≤}
+use Rattle.std.proofs.Common.{◌≡◌, ℕ, zero, suc, ◌+◌, ◌-◌, ◌<◌, ◌≤◌, Bool, true, false, cond, ◌||◌, eqb, List, [], ◌∷◌, ◌++◌, map, Some, None, sym, refl, ap, ◌∙◌, add-zero, suc-add, arith}
 use Rattle.std.specs.List.{range_with_len}
-use Rattle.std.proofs.lemmas.List.FromFn.{length-map-range_with_len, get_or-map-range_with_len, map-range_with_len_more}
+use Rattle.std.proofs.lemmas.List.FromFn.{map-range_with_len_more}
 use Rattle.std.proofs.lemmas.List.{map-append}
-use Rattle.std.proofs.lemmas.Bool.{eqb-true, and_parts, cases_lt, cases_eq, cases_Bool, eq-eqb, ne_eqb, lt-ltb, le-ltb, or_cases, le-leb, and_from}
+use Rattle.std.proofs.lemmas.Bool.{eqb-true}
 use Rattle.std.proofs.lemmas.Bool.Decides.{nat_tests}
-use Rattle.directions.specs.Rings.{member, Cyclic}
-use Rattle.directions.specs.TextRules.{TextRule, OpeningLaws}
-use Rattle.blocks.specs.Fields.{Head, Fields, response, message, headed, tailed, suffix, laid, response_label, acknowledgment_character}
-use Rattle.blocks.specs.Legal.{Way, at, text_allows, text_length, head_allows, Sound}
-use Rattle.blocks.specs.Places.{Kept, place_rule, rest_rule, possible, is_response, acknowledgment_of}
+use Rattle.directions.specs.Rings.{Cyclic}
+use Rattle.directions.specs.TextRules.{OpeningLaws}
+use Rattle.blocks.specs.Fields.{Head, Fields, response, message, headed, tailed, suffix, acknowledgment_character}
+use Rattle.blocks.specs.Legal.{Way}
+use Rattle.blocks.specs.Places.{Kept, possible, is_response, acknowledgment_of}
 use Rattle.blocks.proofs.Strings.{chars}
 
 -- the laws of the two rings and the text rule

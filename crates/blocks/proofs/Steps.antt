@@ -1,10 +1,9 @@
 -- From place to place: what holds of a range of places, and how the rules of a string are kept one after the other.
 -- Assumes nothing.
-use Rattle.std.proofs.Common.{◌≡◌, ℕ, suc, ◌+◌, ◌-◌, ◌<◌, ◌≤◌, Bool, true, false, cond, ◌&&◌, ◌||◌, eqb, ltb, leb, List, length, sym, refl, ap, ◌∙◌, subst, inl, inr, arith}
-use Rattle.std.proofs.lemmas.Bool.{lt-ltb, le-ltb, ne_eqb, eqb-true, cases_lt}
-use Rattle.directions.specs.Rings.{member}
-use Rattle.blocks.specs.Legal.{Way, at, address_allows, is_label}
-use Rattle.blocks.specs.Places.{ch, Kept, place_rule, rest_rule, AddressKept, BrokenAt, HeadBroken}
+use Rattle.std.proofs.Common.{◌≡◌, ℕ, suc, ◌+◌, ◌-◌, ◌<◌, ◌≤◌, true, false, eqb, ltb, List, refl, ◌∙◌, subst, inl, inr, arith}
+use Rattle.std.proofs.lemmas.Bool.{lt-ltb, le-ltb, ne_eqb, cases_lt}
+use Rattle.blocks.specs.Legal.{Way, address_allows}
+use Rattle.blocks.specs.Places.{ch, Kept, place_rule, rest_rule, AddressKept, HeadBroken}
 use Rattle.blocks.specs.declared.fault.BlockFault.TheVariants.{Head}
 
 -- one more place at the end of a range

@@ -1,15 +1,14 @@
 -- Strings given by the characters at their places. Assumes nothing.
-use Rattle.std.proofs.Common.{◌≡◌, ℕ, zero, suc, ◌+◌, ◌-◌, ◌<◌, ◌≤◌, Bool, true, false, cond, List, [], ◌∷◌, ◌++◌, map, length, get_or, take, drop, sym, refl, ap, ◌∙◌, subst, inl, inr, arith, length-append, length-take}
+use Rattle.std.proofs.Common.{◌≡◌, ℕ, zero, suc, ◌+◌, ◌-◌, ◌<◌, ◌≤◌, List, [], ◌∷◌, ◌++◌, map, length, take, sym, ap, ◌∙◌, arith, length-append}
 use lib.Count.{ones}
 use Rattle.std.specs.List.{range_with_len}
 use Rattle.std.proofs.lemmas.List.FromFn.{length-map-range_with_len, get_or-map-range_with_len}
-use Rattle.std.proofs.lemmas.List.{length-map, get_or-map, get_or_append_left, get_or-append_right, get_or-take, ext_get_or, take-append-le, length-take-le, take-map}
-use Rattle.octets.specs.Parity.{character, octet, odd}
+use Rattle.std.proofs.lemmas.List.{length-map, get_or-map, get_or_append_left, get_or-take, ext_get_or, length-take-le}
+use Rattle.octets.specs.Parity.{character, octet}
 use Rattle.octets.specs.Check.{check, low, high}
-use Rattle.octets.proofs.Laws.{character_octet, octet_character}
+use Rattle.octets.proofs.Laws.{character_octet}
 use Rattle.blocks.specs.Fields.{enclosed}
 use Rattle.blocks.specs.Legal.{at}
-use Rattle.blocks.specs.Reading.{covered}
 use Rattle.blocks.specs.Places.{ch}
 
 -- the characters at places 1 to n − 4, and the string of n octets that encloses them

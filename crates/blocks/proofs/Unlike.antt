@@ -1,9 +1,9 @@
 -- The first place at which no legal block agrees is the first that breaks its rule. Assumes nothing.
-use Rattle.std.proofs.Common.{◌≡◌, ℕ, zero, suc, ◌+◌, ◌-◌, ◌<◌, ◌≤◌, Bool, true, false, cond, ◌&&◌, ◌||◌, eqb, ltb, leb, List, [], ◌∷◌, map, length, take, sym, refl, ap, ◌∙◌, subst, inl, inr, arith, lit<, lit≤}
+use Rattle.std.proofs.Common.{◌≡◌, ℕ, zero, suc, ◌+◌, ◌-◌, ◌<◌, ◌≤◌, Bool, true, false, cond, ◌&&◌, ◌||◌, eqb, ltb, leb, List, ◌∷◌, map, length, take, sym, refl, ap, ◌∙◌, subst, inl, inr, arith, lit≤}
 use Rattle.std.specs.List.{range_with_len}
 use Rattle.std.proofs.lemmas.List.FromFn.{length-map-range_with_len, get_or-map-range_with_len}
 use Rattle.std.proofs.lemmas.List.{ext_get_or}
-use Rattle.std.proofs.lemmas.Bool.{eqb-true, ltb-true, leb-true, and_parts, or_cases, cases_lt, cases_eq, cases_Bool, eq-eqb, ne_eqb, lt-ltb, le-ltb, le-leb, and_from, both_ways}
+use Rattle.std.proofs.lemmas.Bool.{eqb-true, ltb-true, and_parts, or_cases, cases_lt, eq-eqb, ne_eqb, lt-ltb, le-ltb, le-leb, and_from, both_ways}
 use Rattle.std.proofs.lemmas.Bool.Decides.{nat_tests}
 use Rattle.octets.specs.Parity.{octet}
 use Rattle.directions.specs.Rings.{RingRule, member, Cyclic}
@@ -11,8 +11,8 @@ use Rattle.directions.specs.TextRules.{TextRule, OpeningLaws}
 use Rattle.blocks.specs.Fields.{Fields, laid, enclosed, written}
 use Rattle.blocks.specs.Legal.{Way, at, address_allows, text_allows, Legal}
 use Rattle.blocks.specs.Reading.{FirstUnlike, Like}
-use Rattle.blocks.specs.Places.{ch, Kept, place_rule, head_rule, rest_rule, possible, is_response, Octets, BrokenAt}
-use Rattle.blocks.proofs.Strings.{chars, string_of, string_length, same_character, front_at}
+use Rattle.blocks.specs.Places.{ch, Kept, place_rule, rest_rule, possible, is_response, Octets, BrokenAt}
+use Rattle.blocks.proofs.Strings.{string_of, string_length, same_character, front_at}
 use Rattle.blocks.proofs.Shapes.{Lawful, Shaped, twelve}
 use Rattle.blocks.proofs.Sounds.{shaped_legal}
 use Rattle.blocks.proofs.Layouts.{chars_of, size_of, laid_out}

@@ -1,15 +1,14 @@
 -- A framed string is the string of its own characters. Assumes nothing.
-use Rattle.std.proofs.Common.{◌≡◌, ℕ, zero, suc, ◌+◌, ◌-◌, ◌<◌, ◌≤◌, List, [], ◌∷◌, ◌++◌, map, length, get_or, take, drop, sym, refl, ap, ◌∙◌, subst, inl, inr, arith, length-drop, length-take}
-use Rattle.std.specs.List.{range_with_len}
+use Rattle.std.proofs.Common.{◌≡◌, ℕ, zero, suc, ◌+◌, ◌-◌, ◌<◌, ◌≤◌, List, [], ◌∷◌, map, length, drop, sym, refl, ap, ◌∙◌, inl, inr, arith, length-drop, length-take}
 use Rattle.std.proofs.lemmas.List.FromFn.{length-map-range_with_len, get_or-map-range_with_len}
-use Rattle.std.proofs.lemmas.List.{length-map, get_or-map, get_or-append_right, get_or-take, get_or-drop, ext_get_or, length-take-le}
+use Rattle.std.proofs.lemmas.List.{get_or-map, get_or-append_right, get_or-take, get_or-drop, ext_get_or}
 use Rattle.std.proofs.lemmas.Bool.{cases_lt, cases_order}
-use Rattle.octets.specs.Parity.{character, octet, odd}
+use Rattle.octets.specs.Parity.{character, octet}
 use Rattle.octets.specs.Check.{check, low, high}
 use Rattle.octets.proofs.Laws.{octet_character}
 use Rattle.blocks.specs.Legal.{at}
-use Rattle.blocks.specs.Reading.{Framed, covered, Outside}
-use Rattle.blocks.specs.Places.{ch, Octets, FrameKept}
+use Rattle.blocks.specs.Reading.{covered}
+use Rattle.blocks.specs.Places.{ch, FrameKept}
 use Rattle.blocks.proofs.Strings.{chars, string_of, body_length, string_length, string_at}
 
 module _ (s : List ℕ) (f : FrameKept s) where

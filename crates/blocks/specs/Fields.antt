@@ -1,6 +1,6 @@
 -- The fields of a block, and the string of octets that they make.
 -- Assumes nothing.
-use Rattle.std.specs.Prelude.{ℕ, ◌+◌, ◌-◌, Bool, true, cond, List, [], ◌∷◌, ◌++◌, map, Some, None, Option}
+use Rattle.std.specs.Prelude.{ℕ, Bool, true, cond, List, [], ◌∷◌, ◌++◌, map, Some, None, Option}
 use Rattle.octets.specs.Parity.{character, octet}
 use Rattle.octets.specs.Check.{check, low, high}
 use Rattle.directions.specs.declared.marks.Identifier.{Identifier}

@@ -1,9 +1,9 @@
 -- Which fields are sound, and which strings are legal blocks.
 -- Assumes nothing.
-use Rattle.std.specs.Prelude.{◌≡◌, ℕ, ◌+◌, ◌-◌, ◌<◌, ◌≤◌, Bool, true, false, cond, ◌&&◌, ◌||◌, List, [], ◌∷◌, length, Some, None, Option, ◌==◌, nat_le, nat_lt, slice_index}
+use Rattle.std.specs.Prelude.{◌≡◌, ℕ, ◌+◌, ◌-◌, ◌<◌, ◌≤◌, Bool, true, cond, ◌&&◌, ◌||◌, List, ◌∷◌, length, Some, None, Option, ◌==◌, nat_le, nat_lt, slice_index}
 use Rattle.directions.specs.Rings.{RingRule, member}
 use Rattle.directions.specs.TextRules.{TextRule, within, is_letter_or_digit}
-use Rattle.blocks.specs.Fields.{Head, Fields, response, message, head_of, written}
+use Rattle.blocks.specs.Fields.{Fields, response, message, head_of, written}
 
 -- a direction as a block sees it: its own ring, the other direction's, and its text rule
 pub record Way : Type 0 where

@@ -1,11 +1,11 @@
 -- The rules of a block place by place, as reading asks them of a string.
 -- Assumes nothing.
-use Rattle.std.specs.Prelude.{◌≡◌, ℕ, suc, ◌+◌, ◌-◌, ◌<◌, ◌≤◌, Bool, true, false, cond, ◌&&◌, ◌||◌, ◌⊎◌, List, length, take, drop, Some, None, Ok, Err, Option, Result, ◌==◌, nat_le, nat_lt}
+use Rattle.std.specs.Prelude.{◌≡◌, ℕ, ◌+◌, ◌-◌, ◌<◌, ◌≤◌, Bool, true, false, cond, ◌&&◌, ◌||◌, ◌⊎◌, List, length, take, drop, Some, None, Ok, Err, Option, Result, ◌==◌, nat_le, nat_lt}
 use Rattle.octets.specs.Parity.{character, odd}
 use Rattle.directions.specs.Rings.{RingRule, member}
 use Rattle.directions.specs.declared.marks.Identifier.{Identifier}
 use Rattle.blocks.specs.declared.fault.BlockFault.{BlockFault}
-use Rattle.blocks.specs.declared.fault.BlockFault.TheVariants.{Buffer, Length, Parity, Delimiter, Check, Head, Rest}
+use Rattle.blocks.specs.declared.fault.BlockFault.TheVariants.{Head}
 use Rattle.blocks.specs.declared.block.Block.{Block}
 use Rattle.blocks.specs.declared.block.Block.TheVariants.{Response, Message}
 use Rattle.blocks.specs.declared.head.HeadRead.{HeadRead}

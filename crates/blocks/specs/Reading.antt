@@ -1,6 +1,6 @@
 -- What reading a string answers: the block that it is, or the first rule that it breaks, with the place.
 -- Assumes nothing.
-use Rattle.std.specs.Prelude.{◌≡◌, ℕ, suc, ◌+◌, ◌-◌, ◌<◌, ◌≤◌, Bool, true, false, cond, ◌⊎◌, List, [], ◌∷◌, length, take, drop, Some, None, Ok, Err, Option, Result, ◌==◌, ◌≢◌}
+use Rattle.std.specs.Prelude.{◌≡◌, ℕ, suc, ◌+◌, ◌-◌, ◌<◌, ◌≤◌, Bool, true, false, ◌⊎◌, List, length, take, drop, Some, None, Ok, Err, Option, Result, ◌==◌, ◌≢◌}
 use Rattle.octets.specs.Parity.{odd}
 use Rattle.octets.specs.Check.{check, low, high}
 use Rattle.blocks.specs.declared.block.Block.{Block}

@@ -1,6 +1,6 @@
 -- Which settings are within their limits.
 -- Assumes nothing.
-use Rattle.std.specs.Prelude.{◌≡◌, ℕ, ◌<◌, ◌≤◌, Bool, true, false, cond, ◌&&◌, List, ◌∷◌, ◌==◌, nat_le}
+use Rattle.std.specs.Prelude.{◌≡◌, ℕ, ◌<◌, ◌≤◌, Bool, true, false, cond, ◌&&◌, List, ◌==◌, nat_le}
 use Rattle.directions.specs.TextRules.{is_letter, is_letter_or_digit}
 use Rattle.blocks.specs.Legal.{at, address_allows}
 use Rattle.calls.specs.declared.types.Settings.{Settings}

@@ -1,11 +1,9 @@
 -- The facts of a ring, over any size. Assumes nothing.
-use Rattle.std.proofs.Common.{◌≡◌, ℕ, zero, suc, ◌+◌, ◌-◌, ◌<◌, ◌≤◌, Bool, true, false, cond, ◌&&◌, eqb, ltb, leb, Some, sym, refl, ap, ◌∙◌, subst, arith}
-use Rattle.std.proofs.lemmas.Bool.{and_parts, and_from, leb-true, ltb-true, le-leb, lt-ltb, le-ltb, ne_eqb}
+use Rattle.std.proofs.Common.{◌≡◌, ℕ, zero, suc, ◌+◌, ◌-◌, ◌<◌, ◌≤◌, Bool, true, false, cond, eqb, ltb, leb, Some, sym, ◌∙◌, subst, arith}
+use Rattle.std.proofs.lemmas.Bool.{and_parts, leb-true, ltb-true, ne_eqb}
 use Rattle.std.proofs.lemmas.Bool.Decides.{nat_tests}
-use Rattle.directions.specs.declared.marks.Mark.{Mark}
-use Rattle.directions.specs.declared.marks.Joining.TheVariants.{Opens, Continues}
+use Rattle.directions.specs.declared.marks.Joining.TheVariants.{Opens}
 use Rattle.directions.specs.Rings.{RingRule, member, next, onward}
-use Rattle.directions.specs.TextRules.{TextRule, Joins}
 use Rattle.directions.specs.RingFacts.{RingFacts, NeverJoined}
 
 low : (r : RingRule) (c : ℕ) → member r c ≡ true → r.first ≤ c

@@ -1,6 +1,6 @@
 -- The facts of every ring, whatever its size, and what they say of the two rings of the link.
 -- Assumes nothing.
-use Rattle.std.specs.Prelude.{◌≡◌, ℕ, ◌+◌, ◌<◌, ◌≤◌, true, false, Some, ◌==◌, ◌≢◌}
+use Rattle.std.specs.Prelude.{◌≡◌, ℕ, ◌<◌, ◌≤◌, true, Some, ◌==◌, ◌≢◌}
 use Rattle.directions.specs.declared.marks.Mark.{Mark}
 use Rattle.directions.specs.declared.marks.Joining.TheVariants.{Continues}
 use Rattle.directions.specs.Rings.{RingRule, member, next, onward}

@@ -1,7 +1,7 @@
 -- What a direction adds to its ring: how the text of its blocks opens, how much of a message a block holds,
 -- and which block opens or continues a message.
 -- Assumes nothing.
-use Rattle.std.specs.Prelude.{◌≡◌, ℕ, suc, ◌+◌, ◌-◌, ◌*◌, ◌/◌, ◌%◌, ◌<◌, ◌≤◌, Bool, true, false, cond, not, ◌&&◌, ◌||◌, List, [], ◌∷◌, ◌++◌, length, Some, None, Option, ◌==◌, nat_le, nat_lt, slice_index}
+use Rattle.std.specs.Prelude.{◌≡◌, ℕ, suc, ◌+◌, ◌-◌, ◌*◌, ◌/◌, ◌%◌, ◌<◌, Bool, true, false, cond, not, ◌&&◌, ◌||◌, List, [], ◌∷◌, ◌++◌, length, Some, None, Option, ◌==◌, nat_le, nat_lt, slice_index}
 use Rattle.directions.specs.declared.marks.Mark.{Mark}
 use Rattle.directions.specs.declared.marks.Mark.TheVariants.{Plain, Numbered}
 use Rattle.directions.specs.declared.marks.Joining.{Joining}

@@ -1,5 +1,5 @@
 -- Stores that hold no message. Assumes nothing.
-use Rattle.std.proofs.Common.{◌≡◌, ℕ, ◌≤◌, false, leb, List, [], ◌∷◌, length, Some, None, refl, arith, lit<, lit≤}
+use Rattle.std.proofs.Common.{◌≡◌, ℕ, ◌≤◌, false, leb, List, [], ◌∷◌, length, None, refl, arith, lit<, lit≤}
 use Rattle.stores.specs.Held.{Stored, record_at}
 use Rattle.calls.specs.declared.types.Settings.{Settings}
 use Rattle.ends.specs.declared.types.Cell.{Cell}

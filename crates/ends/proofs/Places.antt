@@ -1,5 +1,5 @@
 -- The first unsettled message by its place, and what a tick is to send by it.
-use Rattle.std.proofs.Common.{◌≡◌, ℕ, zero, suc, ◌+◌, ◌<◌, Bool, true, false, cond, leb, List, [], ◌∷◌, ◌++◌, length, drop, Some, None, Option, sym, refl, ap, ◌∙◌, subst, add-zero, zero-add, arith}
+use Rattle.std.proofs.Common.{◌≡◌, ℕ, zero, suc, ◌+◌, ◌<◌, Bool, true, false, cond, leb, List, [], ◌∷◌, length, drop, Some, None, Option, sym, refl, ap, ◌∙◌, subst, arith}
 use Rattle.std.specs.List.{slice_get}
 use Rattle.std.specs.Option.{option_map}
 use Rattle.stores.specs.Held.{Stored, stored, record_at, text_at, with_record}
@@ -7,7 +7,7 @@ use Rattle.ends.specs.declared.types.Cell.{Cell}
 use Rattle.ends.specs.declared.types.Stage.{Stage}
 use Rattle.ends.specs.declared.types.Stage.TheVariants.{Unsettled, Settled}
 use Rattle.ends.specs.declared.types.Plan.{Plan}
-use Rattle.ends.specs.declared.types.Plan.TheVariants.{Fresh, Again, Response, Nothing}
+use Rattle.ends.specs.declared.types.Plan.TheVariants.{Again}
 use Rattle.ends.specs.Steps.{Planned}
 use Rattle.ends.specs.Model.{Model}
 use Rattle.ends.specs.Sending.{unsettled, later, current_place, otherwise, plan_of_cell, plan_from, plan_of, staged, stage_at}

@@ -1,9 +1,9 @@
 -- Sending a block by a plan.
-use Rattle.std.proofs.Common.{◌≡◌, ℕ, ◌-◌, ◌^◌, Bool, true, false, eqb, List, take, Some, None, Ok, Err, Option, Result, sym, refl, ap, ◌∙◌, subst, arith}
+use Rattle.std.proofs.Common.{◌≡◌, ℕ, ◌-◌, Bool, true, false, eqb, List, take, Some, Ok, Err, Option, Result, sym, refl, ap, ◌∙◌, subst, arith}
 use Rattle.std.specs.List.{slice_get}
 use Rattle.blocks.specs.declared.fault.BlockFault.{BlockFault}
 use Rattle.blocks.specs.declared.fault.BlockFault.TheVariants.{Buffer, Length, Parity, Delimiter, Check, Head, Rest}
-use Rattle.blocks.specs.Fields.{Fields, message}
+use Rattle.blocks.specs.Fields.{message}
 use Rattle.blocks.specs.Reading.{pick}
 use Rattle.blocks.specs.Faults as block
 use Rattle.stores.specs.Held.{Stored}

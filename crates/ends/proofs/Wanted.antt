@@ -1,10 +1,10 @@
 -- The first message that is wanted. Assumes nothing.
-use Rattle.std.proofs.Common.{◌≡◌, ℕ, zero, suc, ◌<◌, ◌≤◌, Bool, true, false, cond, List, [], ◌∷◌, length, Some, None, Option, sym, refl, ap, ◌∙◌, arith}
+use Rattle.std.proofs.Common.{◌≡◌, ℕ, zero, suc, ◌<◌, Bool, true, false, cond, List, [], ◌∷◌, length, Some, None, refl, ap, ◌∙◌, arith}
 use Rattle.std.specs.List.{slice_get}
 use Rattle.stores.specs.Held.{Stored}
 use Rattle.ends.specs.declared.types.Cell.{Cell}
 use Rattle.ends.specs.Sending.{place_of_number, later}
-use Rattle.ends.specs.Finding.{wanted, wanted_in}
+use Rattle.ends.specs.Finding.{wanted_in}
 
 pub place_none : (n : ℕ) (cs : List (Stored Cell)) → ((k : ℕ) → k < length cs → wanted_in n (slice_get cs k) ≡ false) → place_of_number n cs ≡ None
 place_none n [] h = refl

@@ -7,7 +7,7 @@ use Rattle.ends.specs.declared.types.Cell.{Cell}
 use Rattle.ends.specs.declared.types.Stage.{Stage}
 use Rattle.ends.specs.declared.finding.Found.{Found}
 use Rattle.ends.specs.Model.{Ways, Model}
-use Rattle.ends.specs.Sending.{place_of_number, block_count, begun, staged, stage_at, with_outbox, withdrawn, withdrawn_as}
+use Rattle.ends.specs.Sending.{place_of_number, block_count, begun, staged, stage_at, with_outbox, withdrawn_as}
 use Rattle.ends.specs.Finding.{found_in, found_at, Finds}
 use Rattle.ends.specs.Calls.{too_many_spent, Withdrew}
 

@@ -1,21 +1,20 @@
 -- What each call of an end answers, and what it leaves: the steps of an end.
 -- Assumes nothing.
-use Rattle.std.specs.Prelude.{◌≡◌, ℕ, suc, ◌+◌, ◌-◌, ◌*◌, ◌^◌, ◌<◌, ◌≤◌, Bool, true, false, cond, ◌&&◌, ◌||◌, ◌⊎◌, List, [], ◌∷◌, ◌++◌, length, drop, replicate, Some, None, Ok, Err, Option, Result, ◌==◌, ◌≢◌, nat_le, nat_lt}
+use Rattle.std.specs.Prelude.{◌≡◌, ℕ, suc, ◌+◌, ◌-◌, ◌*◌, ◌^◌, ◌<◌, ◌≤◌, Bool, true, false, ◌&&◌, ◌||◌, ◌⊎◌, List, [], ◌∷◌, ◌++◌, length, drop, replicate, Some, None, Ok, Err, Option, Result, ◌==◌, ◌≢◌, nat_le, nat_lt}
 use Rattle.std.specs.List.{slice_get}
 use Rattle.blocks.specs.declared.block.Block.{Block}
 use Rattle.blocks.specs.declared.fault.BlockFault.{BlockFault}
 use Rattle.blocks.specs.Fields.{Fields, response, message, head_of, fields_read, written}
-use Rattle.blocks.specs.Legal.{Way, at, is_label, is_text, Sound}
+use Rattle.blocks.specs.Legal.{at, is_label, is_text, Sound}
 use Rattle.blocks.specs.Reading.{Reads, pick}
-use Rattle.blocks.specs.Faults as block
 use Rattle.writing.specs.Writing as writing
-use Rattle.stores.specs.Held.{Stored, stored}
+use Rattle.stores.specs.Held.{Stored}
 use Rattle.calls.specs.declared.fault.LinkFault.{LinkFault}
 use Rattle.calls.specs.declared.fault.LinkFault.TheVariants as fault
 use Rattle.calls.specs.declared.types.Label.{Label}
 use Rattle.ends.specs.declared.types.Cell.{Cell}
 use Rattle.ends.specs.declared.types.Stage.{Stage}
-use Rattle.ends.specs.declared.types.Stage.TheVariants.{Unsettled, Settled}
+use Rattle.ends.specs.declared.types.Stage.TheVariants.{Settled}
 use Rattle.calls.specs.declared.types.Outcome.{Outcome}
 use Rattle.ends.specs.declared.types.Plan.{Plan}
 use Rattle.ends.specs.declared.types.Plan.TheVariants as plan
@@ -25,7 +24,7 @@ use Rattle.calls.specs.declared.types.Heard.{Heard}
 use Rattle.calls.specs.declared.types.Heard.TheVariants as heard
 use Rattle.calls.specs.Faults.{number_of, place_of}
 use Rattle.ends.specs.Model.{Ways, Outbox, Inbox, Model}
-use Rattle.ends.specs.Sending.{block_count, begun, place_of_number, plan_of, block_fields, response_fields, fresh_identifier, last_identifier, sent_fresh, sent_again, sent_response, sent_nothing, submitted, withdrawn, counted, with_outbox, with_cells}
+use Rattle.ends.specs.Sending.{begun, place_of_number, plan_of, block_fields, response_fields, fresh_identifier, last_identifier, sent_fresh, sent_again, sent_response, sent_nothing, submitted, withdrawn, counted, with_outbox, with_cells}
 use Rattle.ends.specs.Hearing as hearing
 
 -- SUBMIT

@@ -1,6 +1,6 @@
 -- The receiving half of an end: what a block heard does to it, and what hear answers.
 -- Assumes nothing.
-use Rattle.std.specs.Prelude.{◌≡◌, ℕ, suc, ◌+◌, Bool, true, false, cond, ◌&&◌, List, [], ◌∷◌, ◌++◌, length, drop, Some, None, Ok, Err, Option, Result, ◌==◌, nat_le, nat_lt}
+use Rattle.std.specs.Prelude.{ℕ, suc, ◌+◌, Bool, true, false, cond, ◌&&◌, List, [], ◌∷◌, ◌++◌, length, drop, Some, None, Ok, Err, Option, Result, ◌==◌, nat_le, nat_lt}
 use Rattle.directions.specs.Rings.{RingRule, next}
 use Rattle.directions.specs.declared.marks.Mark.{Mark}
 use Rattle.directions.specs.declared.marks.Joining.{Joining}
@@ -11,8 +11,8 @@ use Rattle.calls.specs.declared.fault.LinkFault.TheVariants.{Stray, Seventeenth,
 use Rattle.calls.specs.declared.types.Label.{Label}
 use Rattle.ends.specs.declared.types.PartHead.{PartHead}
 use Rattle.calls.specs.declared.types.Heard.{Heard}
-use Rattle.calls.specs.declared.types.Heard.TheVariants.{Response, Duplicate, Part, Complete}
-use Rattle.ends.specs.Model.{Ways, Inbox, Model}
+use Rattle.calls.specs.declared.types.Heard.TheVariants.{Duplicate, Part, Complete}
+use Rattle.ends.specs.Model.{Ways, Inbox}
 
 -- a message block as an end takes it: identifier, label, whether it is the last, text
 pub record Block : Type 0 where

@@ -1,7 +1,6 @@
 -- What an end holds, as its calls see it.
 -- Assumes nothing.
-use Rattle.std.specs.Prelude.{ℕ, Bool, false, List, [], Some, None, Option}
-use Rattle.directions.specs.declared.marks.Mark.{Mark}
+use Rattle.std.specs.Prelude.{ℕ, Bool, false, List, [], None, Option}
 use Rattle.blocks.specs.Legal.{Way}
 use Rattle.stores.specs.Held.{Stored}
 use Rattle.calls.specs.declared.types.Settings.{Settings}

@@ -1,15 +1,13 @@
 -- The sending half of an end: blocks, identifiers, waits, and what each call does to it.
 -- Assumes nothing.
-use Rattle.std.specs.Prelude.{◌≡◌, ℕ, zero, suc, ◌+◌, ◌-◌, ◌*◌, ◌/◌, ◌%◌, min, Bool, true, false, cond, not, ◌&&◌, ◌||◌, List, [], ◌∷◌, ◌++◌, length, take, drop, Some, None, Option, ◌==◌, nat_le, nat_lt}
+use Rattle.std.specs.Prelude.{ℕ, zero, suc, ◌+◌, ◌-◌, ◌*◌, ◌/◌, ◌%◌, min, Bool, true, false, cond, ◌&&◌, ◌||◌, List, [], ◌∷◌, ◌++◌, length, take, drop, Some, None, Option, ◌==◌, nat_le, nat_lt}
 use Rattle.directions.specs.Rings.{RingRule, next}
 use Rattle.blocks.specs.Fields.{Fields, response, message}
-use Rattle.blocks.specs.Legal.{Way}
-use Rattle.stores.specs.Held.{Stored, stored, with_record}
+use Rattle.stores.specs.Held.{Stored, stored}
 use Rattle.calls.specs.declared.types.Settings.{Settings}
 use Rattle.calls.specs.declared.types.Label.{Label}
 use Rattle.ends.specs.declared.types.Stage.{Stage}
 use Rattle.ends.specs.declared.types.Stage.TheVariants.{Unsettled, Settled}
-use Rattle.calls.specs.declared.types.Outcome.{Outcome}
 use Rattle.calls.specs.declared.types.Outcome.TheVariants.{Delivered, NotDelivered, InDoubt}
 use Rattle.ends.specs.declared.types.Cell.{Cell}
 use Rattle.ends.specs.declared.types.Clock.{Clock}

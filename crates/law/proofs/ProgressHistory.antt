@@ -4,7 +4,7 @@ use mathlib.Core.Option.{Option, none}
 use Rattle.std.proofs.lemmas.Bool.Decides.{nat_tests}
 use Rattle.law.specs.Directions.{Direction}
 use Rattle.law.specs.Senders.{Text, Message, message, Status, unsettled, delivered, not_delivered, in_doubt, Course, course, Phase, idle, ready, out, Sender, sender, nth, numbered, settle, Unsettled, verdict, Submits, submits, Withdraws, from_ready, from_out, unbegun, Block, Sends, first, further, again, Counts, settles, advances, unnamed, stale}
-use Rattle.law.specs.Links.{Packet, End, called_by, Hears, passes, hears_response, hears_block, Doing, submitted, heard, Answer, Move, submit, withdraw, tick_block, tick_response, tick_nothing, hear, hear_nothing, collect, collect_nothing, outcome, refuse, Side, air, ground, Event, at, Link, Step, at_air, at_ground, Run, begin, ◌then◌}
+use Rattle.law.specs.Links.{Packet, End, called_by, Hears, passes, hears_response, hears_block, Doing, submitted, heard, Answer, Move, submit, withdraw, tick_block, tick_response, tick_nothing, hear, hear_nothing, collect, collect_nothing, outcome, refuse, Side, air, ground, Event, Link, Step, at_air, at_ground, Run, begin, ◌then◌}
 use Rattle.law.specs.Truth.{sender_in, sender_of, calls, submissions}
 use Rattle.law.specs.Rounds.{acknowledged_by, missing, size_at, total, left_at, blocks_left, unacknowledged}
 use Rattle.law.proofs.ProgressCounts.{UnderWay, Held, rest_of, left, to_do, total_same}

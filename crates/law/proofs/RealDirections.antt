@@ -1,13 +1,12 @@
 -- Downlinks and uplinks keep the laws of a direction, since every ring and text rule with its own laws does. Assumes nothing.
-use Rattle.std.proofs.Common.{◌≡◌, ℕ, suc, ◌+◌, ◌-◌, ◌%◌, ◌≤◌, Bool, true, false, Some, None, sym, refl, ap, ◌∙◌, arith, eq-eqb, ne_eqb}
+use Rattle.std.proofs.Common.{◌≡◌, ℕ, suc, ◌+◌, ◌-◌, ◌%◌, ◌≤◌, true, false, Some, None, refl, ap, ◌∙◌, arith, eq-eqb, ne_eqb}
 use mathlib.Core.Option.{Option, none, some}
 use Rattle.directions.specs.declared.marks.Mark.{Mark}
 use Rattle.directions.specs.declared.marks.Mark.TheVariants.{Plain, Numbered}
-use Rattle.directions.specs.declared.marks.Joining.{Joining}
-use Rattle.directions.specs.declared.marks.Joining.TheVariants.{Opens, Continues}
+use Rattle.directions.specs.declared.marks.Joining.TheVariants.{Continues}
 use Rattle.directions.specs.Rings.{RingRule}
 use Rattle.directions.specs.TextRules.{TextRule, Joins, down_ring, up_ring, down_text, up_text, down_joining}
-use Rattle.law.specs.Directions.{Place, opens, continues, Sound}
+use Rattle.law.specs.Directions.{Place, opens, Sound}
 use Rattle.law.specs.Real.{place_of, mark_of, part_of, turn_of, direction_of, RealDirections}
 
 marks_back : (m : Mark) → mark_of (place_of m) ≡ m

@@ -6,7 +6,7 @@ use native.Mathlib.Decide.{dec_le}
 use Rattle.law.specs.Directions.{Direction, Sound}
 use Rattle.law.specs.Senders.{Message, Status, unsettled, delivered, not_delivered, in_doubt, Phase, Block, Sender, sender}
 use Rattle.law.specs.Receivers.{Part, receiver, Took}
-use Rattle.law.specs.Links.{Packet, End, an_end, took, Doing, heard, told, collect, collect_nothing, Side, air, ground, Event, at, Link, link, Step, at_air, at_ground, Run}
+use Rattle.law.specs.Links.{Packet, End, an_end, took, Doing, heard, collect, collect_nothing, Side, air, ground, Event, at, Link, link, Step, at_air, at_ground, Run}
 use Rattle.law.specs.Truth.{other, end_of, waiting_in, called, calls, HandsOut, no_more_out, one_out, WaitingComeOut, completed, Made, Withdrawn, Among, Bears, TrueOf, TruthAndOrder, RefusalsNever}
 use Rattle.law.proofs.Numbers.{rising_rises, rising_among, rising_low}
 use Rattle.law.proofs.Ways.{Way}

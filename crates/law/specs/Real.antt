@@ -1,6 +1,6 @@
 -- The directions of the real rings and text rules.
 -- Assumes nothing.
-use Rattle.std.specs.Prelude.{ℕ, Bool, Some, None}
+use Rattle.std.specs.Prelude.{ℕ, Some, None}
 use Rattle.std.proofs.Math.Option.{Option, none, some}
 use Rattle.std.specs.declared.option.Option as std
 use Rattle.directions.specs.declared.marks.Mark.{Mark}

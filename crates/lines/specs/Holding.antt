@@ -1,11 +1,11 @@
 -- A memory that holds strings, as one is added and as one is removed, for any lawful layout. Assumes nothing.
-use Rattle.std.specs.Prelude.{◌≡◌, ℕ, zero, suc, ◌+◌, ◌-◌, ◌<◌, ◌≤◌, Bool, true, ◌&&◌, List, [], ◌∷◌, ◌++◌, length, take, drop, vec_items, refl}
-use Rattle.std.proofs.Common.{sym, ap, subst, ◌∙◌, append_assoc, arith, length-append}
-use Rattle.std.proofs.lemmas.List.{take_at, drop_at, drop-append-le, take-append-drop, length-take-le, length_push}
+use Rattle.std.specs.Prelude.{◌≡◌, ℕ, zero, suc, ◌+◌, ◌-◌, ◌≤◌, true, List, [], ◌∷◌, ◌++◌, length, take, drop, vec_items, refl}
+use Rattle.std.proofs.Common.{sym, ap, ◌∙◌, append_assoc, arith, length-append}
+use Rattle.std.proofs.lemmas.List.{take_at, drop_at, take-append-drop, length-take-le, length_push}
 use Rattle.std.proofs.lemmas.Bool.{and_parts}
 use Rattle.lines.specs.declared.store.Store.{Store}
 use Rattle.lines.specs.Layout.{Layout, Lawful, holds, holds_all, packed, strings_of, occupied, Lies, Kept}
-use Rattle.lines.specs.Packing.{count_of, first_string, behind_first, read_back, packed_long, packed_push, holds_push, few}
+use Rattle.lines.specs.Packing.{count_of, read_back, packed_long, packed_push, holds_push, few}
 
 -- The strings of a memory, by name: how they lie, how many octets they use and how many they are.
 pub record Holds (l : Layout) (memory : List ℕ) (used count : ℕ) (ss : List (List ℕ)) : Type 0 where

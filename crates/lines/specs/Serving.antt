@@ -1,14 +1,13 @@
 -- What a line's calls do, for any lawful layout, from what they do to its store. Assumes nothing.
-use Rattle.std.specs.Prelude.{◌≡◌, ℕ, zero, suc, ◌+◌, ◌-◌, ◌<◌, ◌≤◌, Bool, true, false, cond, ◌&&◌, leb, List, [], ◌∷◌, ◌++◌, length, take, drop, Some, None, Option, nat_le, refl}
-use Rattle.std.proofs.Common.{sym, ap, subst, ◌∙◌, inl, arith, length-append}
+use Rattle.std.specs.Prelude.{◌≡◌, ℕ, ◌+◌, ◌-◌, ◌<◌, ◌≤◌, Bool, true, false, cond, ◌&&◌, leb, List, [], ◌∷◌, ◌++◌, length, take, drop, nat_le, refl}
+use Rattle.std.proofs.Common.{sym, ap, ◌∙◌, inl, arith, length-append}
 use Rattle.std.proofs.lemmas.List.{take_at, drop_at, take_rest, length-drop, length-take-le, append-nil}
-use Rattle.std.proofs.lemmas.Bool.{and_parts, and_from, and_left, leb-true, cond-true, cond-false}
+use Rattle.std.proofs.lemmas.Bool.{and_parts, leb-true, cond-true, cond-false}
 use Rattle.paths.specs.Meaning.{Sized, Each, Added, Left, Handed}
 use Rattle.lines.specs.declared.store.Store.{Store}
 use Rattle.lines.specs.Layout.{Layout, Lawful, holds, holds_all, packed, strings_of, occupied}
-use Rattle.lines.specs.Line.{LineSight, LinePuts, LineTakes, keeps}
-use Rattle.lines.specs.Stored.{memory_of, seen_in, KeptIn, fit, laid_at, moved_down, Offered, CutOff}
-use Rattle.lines.specs.Packing.{count_of}
+use Rattle.lines.specs.Line.{LinePuts, LineTakes, keeps}
+use Rattle.lines.specs.Stored.{memory_of, seen_in, KeptIn, fit, laid_at, Offered, CutOff}
 use Rattle.lines.specs.Laying.{laid_long, moved_long}
 use Rattle.lines.specs.Holding.{Holds, Oldest, holding, keeping, strings_are, few_held, one_added, none_added, one_removed, oldest, oldest_of, first_is}
 

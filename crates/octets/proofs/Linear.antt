@@ -1,7 +1,7 @@
 -- A step distributes over XOR, and so do n steps. So n steps of a value are its high part XOR the n steps of its n low bits, and
 -- eight steps can be read off a table of 256 entries.
 -- Assumes nothing.
-use Rattle.std.proofs.Common.{◌≡◌, ℕ, zero, suc, ◌+◌, ◌*◌, ◌/◌, ◌%◌, ◌^◌, ◌<◌, Bool, true, false, cond, eqb, sym, refl, ap, ◌∙◌, ap₂, mod-lt, zero-lt-suc, mul-one, arith, pow_pos}
+use Rattle.std.proofs.Common.{◌≡◌, ℕ, zero, suc, ◌*◌, ◌/◌, ◌%◌, ◌^◌, ◌<◌, Bool, true, false, cond, eqb, sym, refl, ap, ◌∙◌, ap₂, mod-lt, zero-lt-suc, mul-one, arith, pow_pos}
 use lib.Bits.{bit_xor, xor_assoc, xor_comm, xor_mod, xor_shifted, xor_shr, xor_zero_r, shifted_even, shifted_half}
 use lib.Pow.{split}
 use Rattle.octets.specs.Check.{shifted, steps, advance}

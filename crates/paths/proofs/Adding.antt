@@ -1,11 +1,11 @@
 -- Putting below twice, and putting below a spoiled string. Assumes nothing.
-use Rattle.std.proofs.Common.{◌≡◌, ℕ, ◌-◌, ◌<◌, ◌≤◌, ◌⊎◌, List, [], ◌∷◌, ◌++◌, length, take, Ok, Err, Result, sym, refl, ap, ◌∙◌, subst, inl, inr, append_assoc, arith}
+use Rattle.std.proofs.Common.{◌≡◌, ℕ, ◌-◌, List, [], ◌∷◌, ◌++◌, length, take, Ok, Err, Result, sym, refl, ap, ◌∙◌, subst, inl, inr, append_assoc, arith}
 use Rattle.std.proofs.lemmas.List.{take_at}
 use Rattle.paths.specs.declared.fault.PathFault.{PathFault}
 use Rattle.paths.specs.declared.fates.Fate.{Fate}
 use Rattle.paths.specs.declared.fates.Fate.TheVariants.{Twice, Spoiled as Bad}
 use Rattle.paths.specs.Meaning.{Sized, Spoiled, Arrives, Each, Added, Puts}
-use Rattle.paths.specs.Fading.{Faded, PutTwice, spoiled}
+use Rattle.paths.specs.Fading.{Faded, spoiled}
 
 each_append : (P : List ℕ → Type 0) (cs bs : List (List ℕ)) → Each P cs → Each P bs → Each P (cs ++ bs)
 each_append P [] bs p q = q

@@ -1,13 +1,11 @@
 -- The line of a string reads back as that string.
-use Rattle.std.proofs.Common.{◌≡◌, ℕ, zero, suc, ◌+◌, ◌*◌, ◌/◌, ◌%◌, ◌<◌, ◌≤◌, Bool, true, false, cond, ltb, ◌⊎◌, List, [], ◌∷◌, length, get_or, take, Some, None, Option, sym, refl, ap, ◌∙◌, subst, inl, inr, ⊎_elim, arith}
+use Rattle.std.proofs.Common.{◌≡◌, ℕ, zero, suc, ◌+◌, ◌*◌, ◌/◌, ◌%◌, ◌<◌, Bool, true, false, List, [], ◌∷◌, length, get_or, take, Some, None, sym, refl, ◌∙◌, subst, inl, inr, arith}
 use Rattle.std.specs.List.{AllByRecursion as All}
-use Rattle.std.proofs.ByRecursion.{All-get_or}
 use Rattle.std.proofs.lemmas.List.{ext_get_or}
 use Rattle.std.proofs.lemmas.Bool.Decides.{nat_tests}
 use Rattle.recordings.specs.declared.heading.Heading.{Heading}
-use Rattle.recordings.specs.declared.heading.Recorded.{Recorded}
-use Rattle.recordings.specs.Recorded.{letter, hex_digit, Digit, Spells, LineOf, Unread, Read, Reading}
-use Rattle.recordings.specs.Laws.{hex_of, line_of, LinesStand, ReadAs, LinesReadBack}
+use Rattle.recordings.specs.Recorded.{letter, hex_digit, Digit, Spells, LineOf}
+use Rattle.recordings.specs.Laws.{hex_of, line_of, LinesStand, LinesReadBack}
 use Rattle.recordings.specs.declared.heading.Heading.TheVariants.{Down, Up}
 
 -- the two letters differ

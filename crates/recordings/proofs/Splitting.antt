@@ -1,10 +1,10 @@
 -- The splitter keeps the line so far, and cuts an input into its lines.
-use Rattle.std.proofs.Common.{◌≡◌, ℕ, ◌+◌, ◌<◌, ◌≤◌, Bool, true, false, List, [], ◌∷◌, ◌++◌, map, length, get_or, take, set, Some, None, Option, sym, refl, ap, ◌∙◌, subst, append_assoc, arith, length-append}
+use Rattle.std.proofs.Common.{◌≡◌, ℕ, ◌+◌, ◌<◌, ◌≤◌, Bool, true, false, List, [], ◌∷◌, ◌++◌, map, length, get_or, take, set, Option, sym, refl, ap, ◌∙◌, subst, append_assoc, arith, length-append}
 use Rattle.std.specs.List.{flat_map}
 use Rattle.std.proofs.lemmas.List.{take_more, take_more_set, append-nil, flat_map_more, map_push, length-take-le}
 use Rattle.std.proofs.ByRecursion.{All-push, All-append}
 use Rattle.recordings.specs.declared.splitter.Splitter.{Splitter}
-use Rattle.recordings.specs.Split.{told, Kept, Holds, Unbroken, Joins, closed, Ended, Fed, Says, Run, begun, fed, ended, Cut, LinesCut}
+use Rattle.recordings.specs.Split.{told, Kept, Holds, Unbroken, Joins, closed, begun, fed, ended, LinesCut}
 
 -- an octet joins a line that has room
 pub kept_more :

@@ -1,10 +1,9 @@
 -- Facts of the line of a string.
-use Rattle.std.proofs.Common.{◌≡◌, ℕ, suc, ◌+◌, ◌-◌, ◌*◌, ◌/◌, ◌%◌, ◌<◌, ◌≤◌, Bool, true, false, ◌≢◌, List, length, get_or, take, drop, set, is_some, Some, None, Option, sym, refl, ap, ◌∙◌, subst, arith, length-set, get_or-set_other, get_or-take, get_or-set_same, below_more}
+use Rattle.std.proofs.Common.{◌≡◌, ℕ, ◌+◌, ◌*◌, ◌<◌, ◌≤◌, Bool, true, false, ◌≢◌, List, length, get_or, take, drop, set, is_some, Some, None, Option, sym, ap, ◌∙◌, subst, arith, length-set, get_or-set_other, get_or-take, get_or-set_same, below_more}
 use Rattle.std.proofs.lemmas.List.{drop-set-lt, length-take-le}
 use Rattle.std.proofs.lemmas.Bool.{false≢true}
-use Rattle.recordings.specs.declared.heading.Heading.{Heading}
 use Rattle.recordings.specs.declared.heading.Recorded.{Recorded}
-use Rattle.recordings.specs.Recorded.{letter, Spells, LineOf, Unread, Read}
+use Rattle.recordings.specs.Recorded.{letter, Spells, Unread, Read}
 use Rattle.recordings.specs.Steps.{OctetOf, SpelledAt, Spelled}
 
 -- the octets up to i are decoded, and nothing behind count is touched

@@ -1,5 +1,5 @@
 -- Any acknowledgment that is heard: it counts, or it changes nothing. Assumes nothing.
-use Rattle.std.proofs.Common.{◌≡◌, ℕ, zero, suc, ◌+◌, ◌<◌, ◌≤◌, Bool, true, false, cond, ◌&&◌, eqb, List, [], ◌∷◌, length, Some, None, sym, refl, ap, ◌∙◌, subst, arith, eq-eqb, ne_eqb, eqb-true}
+use Rattle.std.proofs.Common.{◌≡◌, ℕ, zero, suc, Bool, true, false, ◌&&◌, eqb, List, [], ◌∷◌, Some, None, sym, refl, ap, ◌∙◌, subst, arith, eqb-true}
 use mathlib.Core.Option.{Option, none, some, some-injective}
 use borrow.Author.Tests.{eqb-false, clash}
 use Rattle.std.specs.declared.option.Option as std
@@ -10,13 +10,13 @@ use Rattle.ends.specs.declared.types.Stage.{Stage}
 use Rattle.ends.specs.declared.types.Stage.TheVariants.{Unsettled, Settled}
 use Rattle.ends.specs.Model.{Outbox}
 use Rattle.ends.specs.Sending.{names, current_out}
-use Rattle.law.specs.Senders.{Message, Status, Course, Phase, idle, ready, out, Sender, sender, Current, current, Counts, unnamed, stale}
+use Rattle.law.specs.Senders.{Message, Status, Phase, idle, ready, out, sender, Current, current, Counts, unnamed, stale}
 use Rattle.runs.specs.Links.{current_of}
-use Rattle.runs.proofs.Rings.{Is, Same, no_one, one, same_index}
+use Rattle.runs.proofs.Rings.{Same, no_one, one, same_index}
 use Rattle.runs.proofs.Cuts.{Counted}
 use Rattle.runs.proofs.Cells.{phase_by, phase_of}
 use Rattle.runs.proofs.Senders.{SenderIs}
-use Rattle.runs.proofs.Counting.{counted_box, CountIs, count_is}
+use Rattle.runs.proofs.Counting.{counted_box, count_is}
 
 -- a phase is that of a block gone out
 abbrev is_out : Phase → Bool

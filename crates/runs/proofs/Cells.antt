@@ -1,10 +1,8 @@
 -- The outgoing cells of an end, and what they say of its sender. Assumes nothing.
-use Rattle.std.proofs.Common.{◌≡◌, ℕ, zero, suc, ◌+◌, ◌-◌, ◌*◌, ◌<◌, ◌≤◌, Bool, true, false, cond, eqb, ◌⊎◌, List, [], ◌∷◌, ◌++◌, length, sym, refl, ap, ◌∙◌, subst, inl, inr, arith, eq-eqb, ne_eqb, eqb-true}
+use Rattle.std.proofs.Common.{◌≡◌, ℕ, zero, suc, ◌*◌, ◌<◌, ◌≤◌, Bool, true, false, cond, eqb, List, [], ◌∷◌, ◌++◌, length, sym, refl, ap, ◌∙◌, subst, arith, ne_eqb, eqb-true}
 use mathlib.Core.Option.{Option, none, some}
-use borrow.Author.Tests.{eqb-false}
-use Rattle.stores.specs.Held.{Stored, stored}
+use Rattle.stores.specs.Held.{Stored}
 use Rattle.blocks.specs.Legal.{at, is_label, is_text}
-use Rattle.calls.specs.declared.types.Label.{Label}
 use Rattle.ends.specs.declared.types.Cell.{Cell}
 use Rattle.ends.specs.declared.types.Stage.{Stage}
 use Rattle.ends.specs.declared.types.Stage.TheVariants.{Unsettled, Settled}

@@ -1,7 +1,7 @@
 -- An acknowledgment that counts: what it does to the cells, and to the sender that they are. Assumes nothing.
-use Rattle.std.proofs.Common.{◌≡◌, ℕ, zero, suc, ◌+◌, ◌-◌, ◌*◌, ◌<◌, ◌≤◌, min, Bool, true, false, cond, eqb, ◌⊎◌, List, [], ◌∷◌, ◌++◌, length, Some, None, sym, refl, ap, ◌∙◌, subst, inl, inr, arith, eq-eqb, ne_eqb, eqb-true}
+use Rattle.std.proofs.Common.{◌≡◌, ℕ, suc, ◌+◌, ◌<◌, ◌≤◌, min, Bool, true, false, cond, eqb, List, [], ◌∷◌, length, Some, sym, refl, ap, ◌∙◌, subst, inl, inr, arith, eq-eqb, ne_eqb, eqb-true}
 use native.Mathlib.Nat.{min-eq_left}
-use mathlib.Core.Option.{Option, none, some}
+use mathlib.Core.Option.{some}
 use borrow.Author.Tests.{eqb-false, clash}
 use Rattle.directions.specs.Rings.{RingRule}
 use Rattle.stores.specs.Held.{Stored, stored}
@@ -13,14 +13,14 @@ use Rattle.calls.specs.declared.types.Outcome.TheVariants.{Delivered}
 use Rattle.ends.specs.Model.{Outbox}
 use Rattle.ends.specs.Sending.{block_count, staged, advanced, is_out, acknowledged_cells, current_out}
 use Rattle.ends.specs.Sending as sending
-use Rattle.law.specs.Senders.{Text, Message, message, numbered, Status, unsettled, delivered, settle, Course, course, Phase, idle, ready, out, Sender, sender, Counts, settles, advances}
+use Rattle.law.specs.Senders.{Text, Message, Status, unsettled, delivered, settle, course, Phase, idle, ready, out, sender, Counts, settles, advances}
 use Rattle.runs.specs.Links.{current_of}
 use Rattle.runs.specs.History.{status_at, called_in}
 use Rattle.runs.specs.Strings.{cuts}
 use Rattle.runs.proofs.Cuts.{Counted, cuts_length}
-use Rattle.runs.proofs.Cells.{course_from, course_of, phase_by, phase_of, Unbegun, AllUnbegun, Orderly, OrderlyBy, Between, Holds, Celled, below_uncalled}
+use Rattle.runs.proofs.Cells.{course_from, phase_of, Unbegun, AllUnbegun, Orderly, OrderlyBy, Between, Holds}
 use Rattle.runs.proofs.Courses.{text_at, Apart, apart, further, course_further, idle_unbegun, Restaged, no_cells, restaged, restaged_same, restaged_between, restaged_holds, restaged_celled}
-use Rattle.runs.proofs.Senders.{SenderIs, Bound, Has, has}
+use Rattle.runs.proofs.Senders.{SenderIs, Bound}
 
 -- the cells after an acknowledgment differ in stages alone
 pub acknowledged_restaged : (room : ℕ) (cs : List (Stored Cell)) → Restaged cs (acknowledged_cells room cs)

@@ -1,15 +1,14 @@
 -- A message under way, taken apart; cells whose stages alone differ. Assumes nothing.
-use Rattle.std.proofs.Common.{◌≡◌, ℕ, zero, suc, ◌+◌, ◌-◌, ◌*◌, ◌<◌, ◌≤◌, Bool, true, false, cond, eqb, List, [], ◌∷◌, ◌++◌, length, sym, refl, ap, ◌∙◌, subst, arith, eq-eqb, ne_eqb}
-use mathlib.Core.Option.{Option, none, some}
+use Rattle.std.proofs.Common.{◌≡◌, ℕ, zero, suc, ◌+◌, ◌<◌, Bool, true, false, eqb, List, [], ◌∷◌, length, sym, refl, ap, ◌∙◌, arith, eq-eqb, ne_eqb}
 use borrow.Author.Tests.{clash}
 use Rattle.stores.specs.Held.{Stored, stored}
 use Rattle.ends.specs.declared.types.Cell.{Cell}
 use Rattle.ends.specs.declared.types.Stage.{Stage}
 use Rattle.ends.specs.declared.types.Stage.TheVariants.{Unsettled, Settled}
 use Rattle.calls.specs.declared.types.Label.{Label}
-use Rattle.law.specs.Senders.{Text, Message, message, numbered, Course, course, Phase, idle, ended}
-use Rattle.runs.specs.Strings.{pieces, cuts}
-use Rattle.runs.proofs.Cells.{course_from, phase_by, phase_of, Unbegun, AllUnbegun, Between, GoodCell, Holds, Celled, here, there}
+use Rattle.law.specs.Senders.{Text, Message, Course, course, idle, ended}
+use Rattle.runs.specs.Strings.{pieces}
+use Rattle.runs.proofs.Cells.{course_from, phase_by, phase_of, Unbegun, AllUnbegun, Between, Holds, Celled, here, there}
 
 -- the text at an index
 abbrev pub text_at : List Text → ℕ → Text

@@ -1,5 +1,5 @@
 -- The first unsettled outgoing message: what a tick plans, and what a new block does to the cells. Assumes nothing.
-use Rattle.std.proofs.Common.{◌≡◌, ℕ, zero, suc, ◌+◌, ◌-◌, ◌<◌, ◌≤◌, Bool, true, false, cond, eqb, ◌⊎◌, List, [], ◌∷◌, length, Some, None, sym, refl, ap, ◌∙◌, subst, inl, inr, arith, eq-eqb, ne_eqb, eqb-true}
+use Rattle.std.proofs.Common.{◌≡◌, ℕ, zero, suc, ◌+◌, ◌<◌, ◌≤◌, Bool, true, false, cond, eqb, ◌⊎◌, List, [], ◌∷◌, length, Some, None, sym, refl, ap, ◌∙◌, inl, inr, arith, eq-eqb, ne_eqb}
 use borrow.Author.Tests.{eqb-false}
 use Rattle.std.specs.List.{slice_get}
 use Rattle.stores.specs.Held.{Stored, stored}
@@ -8,13 +8,12 @@ use Rattle.ends.specs.declared.types.Cell.{Cell}
 use Rattle.ends.specs.declared.types.Stage.{Stage}
 use Rattle.ends.specs.declared.types.Stage.TheVariants.{Unsettled, Settled}
 use Rattle.calls.specs.declared.types.Outcome.{Outcome}
-use Rattle.ends.specs.declared.types.Plan.{Plan}
 use Rattle.ends.specs.Model.{Model}
 use Rattle.ends.specs.Sending.{block_count, stage_at, plan_of_cell, plan_from, otherwise}
-use Rattle.law.specs.Senders.{Status, unsettled, Phase, idle, out}
+use Rattle.law.specs.Senders.{Status, unsettled, idle, out}
 use Rattle.runs.specs.Links.{current_of}
-use Rattle.runs.specs.History.{status_at, status_of, called_in}
-use Rattle.runs.proofs.Cells.{course_of, phase_by, phase_of, AllUnbegun, Orderly, OrderlyBy, Between, Celled, here, there, below_uncalled}
+use Rattle.runs.specs.History.{status_of, called_in}
+use Rattle.runs.proofs.Cells.{course_of, phase_by, phase_of, AllUnbegun, Orderly, Between, Celled, here, there, below_uncalled}
 use Rattle.runs.proofs.Courses.{Restaged, restaged, restaged_same}
 use Rattle.runs.proofs.Senders.{settled_not}
 

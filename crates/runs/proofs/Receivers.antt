@@ -1,5 +1,5 @@
 -- The receiving half of an end as a receiver of the law: what a block does to it. Assumes nothing.
-use Rattle.std.proofs.Common.{◌≡◌, ℕ, zero, suc, ◌+◌, ◌-◌, ◌*◌, ◌<◌, ◌≤◌, Bool, true, false, cond, ◌&&◌, eqb, ltb, leb, List, [], ◌∷◌, ◌++◌, reverse, length, drop, Some, None, sym, refl, ap, ◌∙◌, subst, append_assoc, append-nil, arith, length-append, le-leb}
+use Rattle.std.proofs.Common.{◌≡◌, ℕ, suc, ◌+◌, ◌*◌, ◌≤◌, Bool, List, [], ◌∷◌, ◌++◌, reverse, length, drop, Some, None, sym, refl, ap, ◌∙◌, append_assoc, append-nil, arith, length-append, le-leb}
 use mathlib.Core.List.{reverse_aux}
 use mathlib.Core.Option.{Option, none, some}
 use Rattle.std.specs.declared.option.Option as std
@@ -8,7 +8,7 @@ use Rattle.directions.specs.declared.marks.Mark.{Mark}
 use Rattle.directions.specs.declared.marks.Mark.TheVariants.{Plain, Numbered}
 use Rattle.directions.specs.declared.marks.Joining.{Joining}
 use Rattle.directions.specs.declared.marks.Joining.TheVariants.{Opens, Continues, Neither}
-use Rattle.stores.specs.Held.{Stored, stored}
+use Rattle.stores.specs.Held.{Stored}
 use Rattle.calls.specs.declared.types.Label.{Label}
 use Rattle.ends.specs.declared.types.PartHead.{PartHead}
 use Rattle.ends.specs.Model.{Ways, Inbox}
@@ -17,7 +17,7 @@ use Rattle.law.specs.Real as real
 use Rattle.law.specs.Senders.{Text, Message, message}
 use Rattle.law.specs.Receivers as law
 use Rattle.runs.specs.Strings.{joined_up}
-use Rattle.runs.proofs.Rings.{Is, Same}
+use Rattle.runs.proofs.Rings.{Same}
 
 -- texts one after the other, given newest first
 abbrev pub joined_back : List Text → List ℕ

@@ -1,6 +1,6 @@
 -- A real end as an end of the law, and a real call as a move of the law. Assumes nothing.
 use Rattle.std.proofs.Common.{◌≡◌, ℕ, Bool, leb, List, [], ◌∷◌, length, take, Some, None, Ok, Err, Result}
-use mathlib.Core.Option.{Option, none, some}
+use mathlib.Core.Option.{Option}
 use Rattle.std.specs.declared.option.Option as std
 use Rattle.directions.specs.Rings.{Cyclic}
 use Rattle.directions.specs.TextRules.{Joins, OpeningLaws, OpenerLaws}
@@ -21,7 +21,7 @@ use Rattle.law.specs.Senders.{Message, message, Status, Phase, sender}
 use Rattle.law.specs.Receivers.{Part, receiver, Took}
 use Rattle.law.specs.Links as law
 use Rattle.law.specs.Links.{Packet, Side}
-use Rattle.runs.specs.Links.{Strings, Put, unput, put, Deed, submit, withdraw, tick, hear, collect, outcome, Accepted, ways_of}
+use Rattle.runs.specs.Links.{Strings, unput, put, Deed, submit, withdraw, tick, hear, collect, outcome, Accepted, ways_of}
 use Rattle.runs.specs.History.{status_of, said_by}
 use Rattle.runs.specs.Strings.{cuts, joined_up}
 use Rattle.runs.proofs.Cuts.{Counted}

@@ -1,10 +1,9 @@
 -- An identifier's character is the ring's first and its index. Assumes nothing.
-use Rattle.std.proofs.Common.{◌≡◌, ℕ, zero, suc, ◌+◌, ◌-◌, ◌<◌, ◌≤◌, Bool, true, false, cond, ◌&&◌, eqb, ltb, leb, Some, None, sym, refl, ap, ◌∙◌, subst, arith, ltb-false, ltb-true, le-ltb, lt-ltb, eq-eqb, ne_eqb, eqb-true, le-leb, leb-true}
+use Rattle.std.proofs.Common.{◌≡◌, ℕ, suc, ◌+◌, ◌<◌, ◌≤◌, Bool, true, false, cond, eqb, Some, None, refl, arith, le-ltb, lt-ltb, eq-eqb, ne_eqb, eqb-true, le-leb}
 use mathlib.Core.Option.{Option, none, some}
 use borrow.Author.Tests.{eqb-false}
 use Rattle.std.specs.declared.option.Option as std
-use Rattle.directions.specs.Rings.{RingRule, member, next, Cyclic}
-use Rattle.blocks.specs.Legal.{acknowledges}
+use Rattle.directions.specs.Rings.{RingRule, member, next}
 use Rattle.ends.specs.Sending as sending
 use Rattle.ends.specs.Hearing as hearing
 use Rattle.law.specs.Directions as law

@@ -1,13 +1,12 @@
 -- What a string on a path says to the end that hears it: it is spoiled, or written from sound fields. Assumes nothing.
-use Rattle.std.proofs.Common.{◌≡◌, ℕ, Bool, ◌⊎◌, List, [], ◌∷◌, ◌++◌, drop, Ok, Err, Result, sym, refl, ap, ◌∙◌, subst, inl, inr}
+use Rattle.std.proofs.Common.{◌≡◌, ℕ, Bool, List, [], ◌∷◌, ◌++◌, drop, Ok, Err, Result, sym, refl, ap, ◌∙◌, subst, inl, inr}
 use mathlib.Core.Option.{Option, none, some}
-use Rattle.std.specs.declared.option.Option as std
 use Rattle.blocks.specs.declared.block.Block.{Block}
 use Rattle.blocks.specs.declared.fault.BlockFault.{BlockFault}
-use Rattle.blocks.specs.Fields.{Head, Fields, response, message, head_of, fields_read, written}
+use Rattle.blocks.specs.Fields.{Head, Fields, response, message, head_of, written}
 use Rattle.blocks.specs.Legal.{Way, Sound}
 use Rattle.blocks.specs.Reading.{Reads}
-use Rattle.writing.specs.RoundTrip.{IsBlock, RoundTrip}
+use Rattle.writing.specs.RoundTrip.{RoundTrip}
 use Rattle.paths.specs.Meaning.{Spoiled, Arrives, Each}
 use Rattle.calls.specs.declared.fault.LinkFault.{LinkFault}
 use Rattle.calls.specs.declared.types.Heard.{Heard}

@@ -1,5 +1,5 @@
 -- The sending half of an end as a sender of the law: the relation, and what submit and outcome do to it. Assumes nothing.
-use Rattle.std.proofs.Common.{◌≡◌, ℕ, zero, suc, ◌+◌, ◌-◌, ◌*◌, ◌<◌, ◌≤◌, Bool, true, false, cond, eqb, ◌⊎◌, List, [], ◌∷◌, ◌++◌, length, sym, refl, ap, ◌∙◌, subst, inl, inr, arith, length-append, eq-eqb, ne_eqb, eqb-true}
+use Rattle.std.proofs.Common.{◌≡◌, ℕ, suc, ◌+◌, ◌-◌, ◌<◌, ◌≤◌, Bool, true, false, cond, eqb, ◌⊎◌, List, [], ◌∷◌, ◌++◌, length, sym, refl, ap, ◌∙◌, subst, inl, inr, arith, length-append, ne_eqb, eqb-true}
 use mathlib.Core.Option.{Option, none, some}
 use borrow.Author.Tests.{eqb-false}
 use Rattle.directions.specs.Rings.{RingRule}
@@ -11,8 +11,8 @@ use Rattle.ends.specs.declared.types.Stage.TheVariants.{Unsettled, Settled}
 use Rattle.calls.specs.declared.types.Outcome.{Outcome}
 use Rattle.calls.specs.declared.types.Outcome.TheVariants.{Delivered, NotDelivered, InDoubt}
 use Rattle.ends.specs.Model.{Outbox}
-use Rattle.ends.specs.Sending.{block_count, with_cells}
-use Rattle.law.specs.Senders.{Text, Message, message, numbered, Status, unsettled, delivered, not_delivered, in_doubt, Course, Phase, idle, ready, out, Sender, sender}
+use Rattle.ends.specs.Sending.{with_cells}
+use Rattle.law.specs.Senders.{Message, message, numbered, Status, unsettled, delivered, not_delivered, in_doubt, Phase, idle, ready, out}
 use Rattle.runs.specs.History.{status_of, status_at, called_in}
 use Rattle.runs.specs.Strings.{cuts}
 use Rattle.runs.proofs.Rings.{Same}

@@ -1,29 +1,27 @@
 -- A tick at the sending half: the block that it puts is one of the law's, or there is none to put. Assumes nothing.
-use Rattle.std.proofs.Common.{◌≡◌, ℕ, zero, suc, ◌+◌, ◌-◌, ◌<◌, ◌≤◌, min, Bool, true, false, cond, ◌⊎◌, List, [], ◌∷◌, length, Some, None, sym, refl, ap, ◌∙◌, subst, inl, inr, arith}
-use mathlib.Core.Option.{Option, none, some, some-injective}
+use Rattle.std.proofs.Common.{◌≡◌, ℕ, zero, suc, ◌+◌, ◌-◌, ◌≤◌, min, Bool, true, false, cond, List, [], ◌∷◌, length, Some, None, sym, refl, ap, ◌∙◌, subst, inl, inr, arith}
+use mathlib.Core.Option.{Option, some}
 use native.Mathlib.Nat.{min-eq_left}
-use borrow.Author.Tests.{clash}
 use Rattle.std.specs.List.{slice_get}
 use Rattle.std.specs.declared.option.Option as std
-use Rattle.directions.specs.Rings.{RingRule, next}
+use Rattle.directions.specs.Rings.{RingRule}
 use Rattle.directions.specs.TextRules.{TextRule}
-use Rattle.stores.specs.Held.{Stored, stored}
+use Rattle.stores.specs.Held.{Stored}
 use Rattle.ends.specs.declared.types.Cell.{Cell}
-use Rattle.ends.specs.declared.types.Stage.{Stage}
-use Rattle.ends.specs.declared.types.Stage.TheVariants.{Unsettled, Settled}
+use Rattle.ends.specs.declared.types.Stage.TheVariants.{Unsettled}
 use Rattle.ends.specs.Model.{Outbox}
-use Rattle.ends.specs.Sending.{block_count, stage_at, fresh_identifier, last_identifier, or_else, spent_by}
-use Rattle.law.specs.Directions.{Direction, fresh, cost}
+use Rattle.ends.specs.Sending.{stage_at, fresh_identifier, last_identifier, or_else, spent_by}
+use Rattle.law.specs.Directions.{fresh, cost}
 use Rattle.law.specs.Real.{direction_of}
 use Rattle.law.specs.Senders as law
 use Rattle.law.specs.Senders.{Text, Message, message, numbered, Status, unsettled, Course, course, block_of, Phase, idle, ready, out, Sender, sender, Chosen, Quiet, early, empty}
 use Rattle.runs.specs.Strings.{cuts}
-use Rattle.runs.proofs.Rings.{Is, Same, no_one, one, fresh_is}
+use Rattle.runs.proofs.Rings.{Is, Same, one, fresh_is}
 use Rattle.runs.proofs.Cuts.{Counted, cuts_length}
-use Rattle.runs.proofs.Cells.{course_from, course_of, phase_by, phase_of, Between, GoodCell, Holds, Celled, here, there}
+use Rattle.runs.proofs.Cells.{course_from, course_of, phase_by, Between, GoodCell, Holds, Celled, here, there}
 use Rattle.runs.proofs.Courses.{restaged_between, restaged_holds, restaged_celled}
 use Rattle.runs.proofs.Senders.{SenderIs, Bound, Has, has}
-use Rattle.runs.proofs.Firsts.{cell_of, First, All-settled, first_of}
+use Rattle.runs.proofs.Firsts.{cell_of, First, All-settled}
 
 -- the outgoing half after a new block of the cell at a place
 abbrev pub fresh_box : RingRule → Outbox → ℕ → ℕ → Outbox

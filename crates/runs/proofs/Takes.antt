@@ -1,15 +1,13 @@
 -- A block heard is taken, or refused, as the law's receiver takes it. Assumes nothing.
-use Rattle.std.proofs.Common.{◌≡◌, ℕ, zero, suc, ◌+◌, ◌<◌, ◌≤◌, Bool, true, false, cond, ◌&&◌, eqb, ltb, leb, List, [], ◌∷◌, ◌++◌, reverse, length, drop, Some, None, Ok, Err, Result, sym, refl, ap, ◌∙◌, subst, arith, ltb-false, ltb-true, eqb-true, leb-false, leb-true}
-use mathlib.Core.Option.{Option, none, some, some-injective}
+use Rattle.std.proofs.Common.{◌≡◌, ℕ, ◌≤◌, Bool, true, false, cond, ◌&&◌, ltb, leb, List, [], ◌∷◌, ◌++◌, reverse, length, drop, Some, None, Ok, Err, Result, sym, refl, ap, ◌∙◌, subst, arith, ltb-false, ltb-true, eqb-true, leb-false, leb-true}
+use mathlib.Core.Option.{Option, some, some-injective}
 use borrow.Author.Tests.{eqb-false, clash}
 use Rattle.std.specs.declared.option.Option as std
 use Rattle.directions.specs.Rings.{RingRule}
 use Rattle.directions.specs.declared.marks.Mark.{Mark}
-use Rattle.directions.specs.declared.marks.Joining.{Joining}
 use Rattle.stores.specs.Held.{Stored, stored}
 use Rattle.calls.specs.declared.fault.LinkFault.{LinkFault}
 use Rattle.calls.specs.declared.fault.LinkFault.TheVariants.{Stray, Seventeenth, Crowded}
-use Rattle.calls.specs.declared.types.Label.{Label}
 use Rattle.ends.specs.declared.types.PartHead.{PartHead}
 use Rattle.calls.specs.declared.types.Heard.{Heard}
 use Rattle.calls.specs.declared.types.Heard.TheVariants as heard
@@ -20,10 +18,9 @@ use Rattle.law.specs.Real as real
 use Rattle.law.specs.Senders as sender
 use Rattle.law.specs.Senders.{Text, Message}
 use Rattle.law.specs.Receivers as law
-use Rattle.runs.specs.Strings.{joined_up}
 use Rattle.runs.proofs.Rings.{Is, Same, no_one, one, same_index, is_next_same}
 use Rattle.runs.proofs.Acks.{none_some}
-use Rattle.runs.proofs.Receivers.{joined_back, joined_reverse, marks_back, PartIs, shut, opened, PartAfter, no_part, a_part, mark_same, joins_same, WaitingAre, waiting_add, waiting_length, ReceiverIs}
+use Rattle.runs.proofs.Receivers.{joined_reverse, marks_back, shut, opened, PartAfter, no_part, a_part, mark_same, joins_same, waiting_add, waiting_length, ReceiverIs}
 
 -- the answer of hear to a block that is taken so
 abbrev pub answer_of : law.Took → Result Heard LinkFault

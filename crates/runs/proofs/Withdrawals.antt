@@ -1,20 +1,17 @@
 -- A withdrawal: what it does to the cells. Assumes nothing.
-use Rattle.std.proofs.Common.{◌≡◌, ℕ, zero, suc, ◌+◌, ◌-◌, ◌<◌, ◌≤◌, Bool, true, false, cond, ◌&&◌, ◌||◌, eqb, List, [], ◌∷◌, length, Some, None, sym, refl, ap, ◌∙◌, subst, arith, eq-eqb, ne_eqb, eqb-true}
-use borrow.Author.Tests.{eqb-false, clash}
-use Rattle.std.specs.List.{slice_get}
-use Rattle.std.specs.declared.option.Option as std
-use Rattle.stores.specs.Held.{Stored, stored}
+use Rattle.std.proofs.Common.{◌≡◌, ℕ, zero, suc, ◌<◌, ◌≤◌, Bool, true, false, cond, eqb, List, [], ◌∷◌, sym, refl, ap, ◌∙◌, arith, ne_eqb, eqb-true}
+use borrow.Author.Tests.{clash}
+use Rattle.stores.specs.Held.{Stored}
 use Rattle.calls.specs.declared.types.Label.{Label}
 use Rattle.ends.specs.declared.types.Cell.{Cell}
 use Rattle.ends.specs.declared.types.Stage.{Stage}
 use Rattle.ends.specs.declared.types.Stage.TheVariants.{Unsettled, Settled}
 use Rattle.calls.specs.declared.types.Outcome.{Outcome}
-use Rattle.ends.specs.Sending.{block_count, begun, stage_at, place_of_number, later}
-use Rattle.ends.specs.Sending as sending
-use Rattle.law.specs.Senders.{Text, Status, unsettled, Course, course, number_of, Phase, idle, ready, out, Begun, between, current}
+use Rattle.ends.specs.Sending.{begun, stage_at}
+use Rattle.law.specs.Senders.{Text, Status, unsettled, Course, number_of, Phase, idle, ready, out, Begun, between, current}
 use Rattle.runs.specs.Strings.{cuts}
 use Rattle.runs.specs.History.{status_at, status_of, called_in}
-use Rattle.runs.proofs.Cells.{course_from, course_of, phase_by, phase_of, Unbegun, AllUnbegun, Orderly, OrderlyBy, Between, Celled, here, there}
+use Rattle.runs.proofs.Cells.{course_from, phase_by, phase_of, AllUnbegun, Orderly, OrderlyBy, Between}
 use Rattle.runs.proofs.Courses.{idle_unbegun, Restaged, no_cells, restaged, restaged_same}
 use Rattle.runs.proofs.Counting.{unbegun_orderly}
 use Rattle.runs.proofs.Firsts.{cell_of}

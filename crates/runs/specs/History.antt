@@ -1,6 +1,6 @@
 -- What is read off a run: messages submitted, withdrawn, sent, acknowledged, completed, and what each is called.
 -- Assumes nothing.
-use Rattle.std.specs.Prelude.{◌≡◌, ℕ, zero, suc, Bool, cond, List, [], ◌∷◌, ◌++◌, map, length, take, Some, None, Ok, Err, Option, Result, ◌==◌}
+use Rattle.std.specs.Prelude.{◌≡◌, ℕ, zero, suc, cond, List, [], ◌∷◌, ◌++◌, map, length, take, Some, None, Ok, Err, Option, Result, ◌==◌}
 use Rattle.std.specs.List.{slice_get}
 use Rattle.stores.specs.Held.{Stored}
 use Rattle.calls.specs.declared.fault.LinkFault.{LinkFault}
@@ -16,7 +16,7 @@ use Rattle.ends.specs.Model.{Model}
 use Rattle.ends.specs.Sending.{block_count}
 use Rattle.law.specs.Senders.{Status, unsettled, delivered, not_delivered, in_doubt}
 use Rattle.law.specs.Links.{Side, air, ground}
-use Rattle.runs.specs.Links.{Strings, Link, link, Place, Put, Deed, submit, withdraw, tick, hear, collect, outcome, Event, at, ways_of}
+use Rattle.runs.specs.Links.{Strings, Link, link, Put, Deed, submit, withdraw, tick, hear, collect, outcome, Event, at, ways_of}
 
 -- a message: its label and its text
 pub record Message : Type 0 where

@@ -1,6 +1,6 @@
 -- A link of two ends: what waits on its paths, the calls at its ends, its runs.
 -- Assumes nothing.
-use Rattle.std.specs.Prelude.{◌≡◌, ℕ, Bool, true, false, cond, ◌&&◌, List, [], ◌∷◌, ◌++◌, length, Some, None, Ok, Err, Option, Result, ◌==◌}
+use Rattle.std.specs.Prelude.{◌≡◌, ℕ, Bool, false, cond, ◌&&◌, List, [], ◌∷◌, ◌++◌, length, Some, None, Ok, Err, Option, Result, ◌==◌}
 use Rattle.directions.specs.TextRules.{down_ring, up_ring, down_text, up_text}
 use Rattle.blocks.specs.Legal.{Way}
 use Rattle.paths.specs.Meaning.{Arrives, Each}

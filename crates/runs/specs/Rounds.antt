@@ -13,7 +13,7 @@ use Rattle.law.specs.Senders.{Status}
 use Rattle.law.specs.Links.{Side}
 use Rattle.law.specs.Truth.{other}
 use Rattle.law.specs.Rounds.{left_at, total}
-use Rattle.runs.specs.Links.{Link, Place, Put, unput, put, Deed, submit, withdraw, tick, hear, collect, outcome, Event, at, Step, Run}
+use Rattle.runs.specs.Links.{Link, Place, unput, put, Deed, submit, withdraw, tick, hear, collect, outcome, Event, at, Step, Run}
 use Rattle.runs.specs.History.{Message, size, calls, submissions, numbered, called, end_of}
 
 -- a tick that is not refused and whose put, if it makes one, adds exactly one intact copy

@@ -13,7 +13,6 @@ use Rattle.ends.specs.Model.{Ways, Model}
 use Rattle.ends.specs.Sending.{block_count, block_text}
 use Rattle.ends.specs.Calls.{StringHeard}
 use Rattle.law.specs.Links.{Side}
-use Rattle.runs.specs.Links.{ways_of}
 use Rattle.runs.specs.History.{room}
 
 -- an answer of reading is a refusal by 3, 4 or 5

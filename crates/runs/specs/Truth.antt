@@ -4,13 +4,12 @@ use Rattle.std.specs.Prelude.{◌≡◌, ℕ, ◌<◌, ◌≤◌, ◌⊎◌, ◌
 use Rattle.calls.specs.declared.types.Outcome.{Outcome}
 use Rattle.calls.specs.declared.types.Label.{Label}
 use Rattle.calls.specs.declared.fault.LinkFault.{LinkFault}
-use Rattle.calls.specs.declared.fault.LinkFault.TheVariants.{Nothing}
 use Rattle.law.specs.Senders.{Status, unsettled, delivered, not_delivered, in_doubt}
 use Rattle.law.specs.Links.{Side}
 use Rattle.law.specs.Truth.{other, Among, Rises, Extends}
 use Rattle.calls.specs.Faults.{number_of}
 use Rattle.runs.specs.Links.{Link, Deed, collect, outcome, Event, at, Step, Run, Onward}
-use Rattle.runs.specs.History.{Message, message, calls, submissions, completed, numbered, given_out, status_of, called, end_of, waits, Made, Withdrawn, LastAcknowledged, WithdrawnLate}
+use Rattle.runs.specs.History.{Message, calls, submissions, completed, numbered, given_out, status_of, called, end_of, waits, Made, Withdrawn, LastAcknowledged, WithdrawnLate}
 
 -- each message is the submitted one whose number it bears
 pub data Bears (given : List Message) : List ℕ → List Message → Type 0 where

@@ -1,12 +1,12 @@
 -- A string of characters that keep their rules is framed as a block. Assumes nothing.
-use Rattle.std.proofs.Common.{◌≡◌, ℕ, zero, suc, ◌+◌, ◌-◌, ◌<◌, ◌≤◌, Bool, true, false, cond, List, [], ◌∷◌, ◌++◌, map, length, get_or, take, drop, sym, refl, ap, ◌∙◌, subst, inl, inr, arith}
+use Rattle.std.proofs.Common.{◌≡◌, ℕ, zero, suc, ◌+◌, ◌-◌, ◌<◌, ◌≤◌, List, [], ◌∷◌, ◌++◌, map, length, take, sym, refl, ap, ◌∙◌, inl, inr, arith}
 use lib.Count.{ones}
-use Rattle.std.proofs.lemmas.List.{get_or-append_right, take-append-le, take_all, take_at}
-use Rattle.octets.specs.Parity.{character, octet, odd}
+use Rattle.std.proofs.lemmas.List.{get_or-append_right, take_at}
+use Rattle.octets.specs.Parity.{octet, odd}
 use Rattle.octets.specs.Check.{check, low, high}
 use Rattle.octets.proofs.Laws.{octet_odd}
 use Rattle.blocks.specs.Legal.{Way, at}
-use Rattle.blocks.specs.Reading.{Framed, covered, Outside, OddOutside}
+use Rattle.blocks.specs.Reading.{Framed, covered, OddOutside}
 use Rattle.blocks.proofs.Strings.{chars, string_of, body_length, string_length, string_at}
 use Rattle.blocks.proofs.Shapes.{Lawful, Shaped}
 use Rattle.blocks.proofs.Unlike.{kept_seven}

@@ -1,6 +1,6 @@
 -- Laying one part after the other. Assumes nothing.
-use Rattle.std.proofs.Common.{◌≡◌, ℕ, zero, suc, ◌+◌, ◌-◌, ◌<◌, ◌≤◌, Bool, true, false, List, [], ◌∷◌, ◌++◌, map, length, get_or, take, drop, set, sym, refl, ap, ◌∙◌, subst, append_assoc, add-zero, arith, length-append, length-take}
-use Rattle.std.proofs.lemmas.List.{set_at, drop_more, take-append-drop, length-take-le, take_at, drop-drop, append-nil, length-map, map-append, take-take, drop_at, take-append-le, length-drop}
+use Rattle.std.proofs.Common.{◌≡◌, ℕ, ◌+◌, ◌-◌, ◌<◌, ◌≤◌, Bool, List, [], ◌∷◌, ◌++◌, map, length, get_or, take, drop, set, sym, refl, ap, ◌∙◌, append_assoc, add-zero, arith, length-append}
+use Rattle.std.proofs.lemmas.List.{set_at, drop_more, take-append-drop, length-take-le, take_at, drop-drop, length-map, map-append, drop_at}
 use Rattle.writing.specs.Laying.{placed, laid_octet, enclosed_by}
 use Rattle.blocks.specs.Fields.{Head, headed, tailed, suffix, acknowledgment_character}
 use Rattle.octets.specs.Check.{check, low, high}

@@ -1,15 +1,14 @@
 -- A string has one refusal at most, and a legal block has none. Assumes nothing.
-use Rattle.std.proofs.Common.{◌≡◌, ℕ, zero, suc, ◌+◌, ◌-◌, ◌<◌, ◌≤◌, Bool, true, false, cond, List, [], ◌∷◌, length, take, Some, None, Option, sym, refl, ap, ◌∙◌, subst, inl, inr, arith}
+use Rattle.std.proofs.Common.{◌≡◌, ℕ, suc, ◌<◌, ◌≤◌, List, take, Some, sym, refl, ap, ◌∙◌, subst, inl, inr, arith}
 use Rattle.std.proofs.lemmas.List.{take-take}
 use Rattle.std.proofs.lemmas.Bool.{cases_order, both_ways}
 use Rattle.blocks.specs.declared.fault.BlockFault.{BlockFault}
 use Rattle.blocks.specs.declared.fault.BlockFault.TheVariants.{Buffer, Length, Parity, Delimiter, Check, Head, Rest}
 use Rattle.blocks.specs.Faults.{number_of, place_of}
-use Rattle.blocks.specs.Legal.{Way, at, Legal}
+use Rattle.blocks.specs.Legal.{Way, Legal}
 use Rattle.blocks.specs.Reading.{Refusal, LongEnough, OddOutside, Delimited, Checked, Framed, FirstUnlike, Like, LengthRefused, ParityRefused, DelimiterRefused, CheckRefused, HeadRefused, RestRefused}
-use Rattle.blocks.proofs.Shapes.{Lawful, Shaped}
-use Rattle.blocks.proofs.Strings.{string_of}
-use Rattle.blocks.proofs.Unlike.{Shape, legal_shape}
+use Rattle.blocks.proofs.Shapes.{Lawful}
+use Rattle.blocks.proofs.Unlike.{legal_shape}
 use Rattle.writing.proofs.Frames.{framed}
 
 -- a refusal with its number and place

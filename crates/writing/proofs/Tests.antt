@@ -1,5 +1,5 @@
 -- How the tests of fields go on from place to place. Assumes nothing.
-use Rattle.std.proofs.Common.{◌≡◌, ℕ, zero, suc, ◌+◌, ◌-◌, ◌<◌, ◌≤◌, Bool, true, false, cond, eqb, ltb, List, [], ◌∷◌, length, Some, sym, refl, ap, ◌∙◌, subst, inl, inr, add-one, arith, lit<, lit≤, below_more}
+use Rattle.std.proofs.Common.{◌≡◌, ℕ, suc, ◌+◌, ◌-◌, ◌<◌, ◌≤◌, true, false, ltb, List, ◌∷◌, Some, sym, ◌∙◌, subst, inl, inr, add-one, arith, lit≤}
 use Rattle.std.proofs.lemmas.Bool.{cases_lt, lt-ltb, le-ltb}
 use Rattle.blocks.specs.Fields.{Fields, response, message, head_of}
 use Rattle.blocks.specs.Legal.{Way, at, address_allows, head_allows, label_allows, TextKept, Sound}

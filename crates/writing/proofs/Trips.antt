@@ -1,7 +1,5 @@
 -- The round trip. Assumes nothing.
-use Rattle.std.proofs.Common.{◌≡◌, ℕ, zero, suc, ◌+◌, ◌-◌, ◌<◌, ◌≤◌, List, [], ◌∷◌, map, length, Some, Ok, Err, Result, sym, refl, ap, ◌∙◌, subst, arith}
-use Rattle.std.specs.List.{range_with_len}
-use Rattle.std.proofs.lemmas.List.FromFn.{length-map-range_with_len, get_or-map-range_with_len}
+use Rattle.std.proofs.Common.{◌≡◌, ℕ, suc, ◌+◌, ◌-◌, ◌<◌, List, ◌∷◌, length, Some, Ok, Err, Result, sym, refl, ap, ◌∙◌, arith}
 use Rattle.std.proofs.lemmas.List.{ext_get_or}
 use Rattle.blocks.specs.declared.block.Block.{Block}
 use Rattle.blocks.specs.declared.fault.BlockFault.{BlockFault}
@@ -11,11 +9,11 @@ use Rattle.blocks.specs.Legal.{Way, at, Sound, Legal}
 use Rattle.blocks.specs.Reading.{Reads}
 use Rattle.blocks.specs.Places.{ch}
 use Rattle.blocks.proofs.Shapes.{Lawful, fields_at}
-use Rattle.blocks.proofs.Strings.{chars, string_of, string_length, same_character}
+use Rattle.blocks.proofs.Strings.{string_length, same_character}
 use Rattle.blocks.proofs.Layouts.{laid_out, chars_of, size_of}
 use Rattle.blocks.proofs.Unlike.{written_is, kept_seven}
-use Rattle.writing.specs.RoundTrip.{IsBlock, RoundTrip, EveryRoundTrip}
-use Rattle.writing.proofs.Refused.{Refused, refused_by_lem, one_refused, unrefused}
+use Rattle.writing.specs.RoundTrip.{IsBlock, EveryRoundTrip}
+use Rattle.writing.proofs.Refused.{refused_by_lem, one_refused, unrefused}
 
 module _ (w : Way) (l : Lawful w) where
   abbrev legal : (f : Fields) → Sound w f → Legal w (written f)

@@ -1,9 +1,9 @@
 -- Sound fields are laid as the string that they write. Assumes nothing.
-use Rattle.std.proofs.Common.{◌≡◌, ℕ, zero, suc, ◌+◌, ◌-◌, ◌%◌, ◌<◌, ◌≤◌, Bool, true, false, ltb, leb, List, [], ◌∷◌, ◌++◌, map, length, get_or, drop, sym, refl, ap, ◌∙◌, subst, mod-eq_of_lt, arith}
+use Rattle.std.proofs.Common.{◌≡◌, ℕ, suc, ◌+◌, ◌<◌, ◌≤◌, leb, map, length, sym, refl, ap, ◌∙◌, mod-eq_of_lt, arith}
 use Rattle.std.proofs.lemmas.List.{length-map, get_or-map, ext_get_or}
 use Rattle.std.proofs.lemmas.Bool.{leb-true, and_parts}
 use Rattle.octets.specs.Parity.{octet}
-use Rattle.blocks.specs.Fields.{Fields, response, message, head_of, label_of, text_of, laid, written, enclosed}
+use Rattle.blocks.specs.Fields.{Fields, response, message, text_of, laid, written, enclosed}
 use Rattle.blocks.specs.Legal.{Way, at, Sound}
 use Rattle.blocks.proofs.Shapes.{Lawful}
 use Rattle.blocks.proofs.Layouts.{laid_out, chars_of, size_of}

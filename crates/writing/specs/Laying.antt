@@ -1,9 +1,9 @@
 -- How the parts of a block are laid one after the other into a buffer, and how its fields are tested first.
 -- Assumes nothing.
-use Rattle.std.specs.Prelude.{◌≡◌, ℕ, ◌+◌, ◌%◌, ◌<◌, ◌≤◌, Bool, true, false, ◌⊎◌, List, [], ◌∷◌, ◌++◌, map, length, take, drop, Some, None, Ok, Err, Option, Result}
+use Rattle.std.specs.Prelude.{◌≡◌, ℕ, ◌+◌, ◌%◌, ◌<◌, ◌≤◌, true, false, ◌⊎◌, List, ◌∷◌, ◌++◌, map, length, take, drop, Some, None, Ok, Err, Option, Result}
 use Rattle.octets.specs.Parity.{octet}
 use Rattle.blocks.specs.declared.fault.BlockFault.{BlockFault}
-use Rattle.blocks.specs.Fields.{Fields, response, message, head_of, label_of, written, enclosed}
+use Rattle.blocks.specs.Fields.{Fields, head_of, label_of, enclosed}
 use Rattle.blocks.specs.Faults.{number_of, place_of}
 use Rattle.blocks.specs.Legal.{Way, at, address_allows, is_label, label_allows, text_allows, Sound, TextKept}
 use Rattle.writing.specs.Writing.{HeadGood, HeadBad, TextGood, TextBad, Refusal}

@@ -1,6 +1,6 @@
 -- Reading accepts exactly the strings that writing makes, with the same fields.
 -- Assumes nothing.
-use Rattle.std.specs.Prelude.{◌≡◌, ℕ, List, Ok, Err, Option, Result}
+use Rattle.std.specs.Prelude.{◌≡◌, ℕ, List, Ok, Err, Result}
 use Rattle.directions.specs.Rings.{Cyclic}
 use Rattle.directions.specs.TextRules.{OpeningLaws}
 use Rattle.blocks.specs.declared.block.Block.{Block}

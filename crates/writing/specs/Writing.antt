@@ -1,8 +1,8 @@
 -- What writing a block into a buffer answers and leaves.
 -- Assumes nothing.
-use Rattle.std.specs.Prelude.{◌≡◌, ℕ, ◌+◌, ◌<◌, ◌≤◌, Bool, true, false, ◌⊎◌, List, ◌∷◌, ◌++◌, length, drop, Some, None, Ok, Err, Option, Result, ◌==◌}
+use Rattle.std.specs.Prelude.{◌≡◌, ℕ, ◌+◌, ◌<◌, ◌≤◌, true, false, ◌⊎◌, List, ◌∷◌, ◌++◌, length, drop, Some, None, Ok, Err, Option, Result, ◌==◌}
 use Rattle.blocks.specs.declared.fault.BlockFault.{BlockFault}
-use Rattle.blocks.specs.Fields.{Fields, response, message, written, last_of, text_of}
+use Rattle.blocks.specs.Fields.{Fields, response, message, written}
 use Rattle.blocks.specs.Faults.{number_of, place_of}
 use Rattle.blocks.specs.Legal.{Way, at, head_allows, text_allows, text_length, Sound}
 use Rattle.blocks.specs.Reading.{pick}

@@ -1,4 +1,4 @@
-use Rattle.std.proofs.Common.{◌≡◌, ℕ, List, take, ap, ◌∙◌}
+use Rattle.std.proofs.Common.{ℕ, List, take, ap, ◌∙◌}
 use Rattle.std.proofs.lemmas.List.{take_rest}
 use Rattle.blocks.proofs.heading.part.Goals as goal
 

@@ -1,8 +1,8 @@
-use Rattle.std.proofs.Common.{◌≡◌, ℕ, ◌-◌, ◌<◌, ◌≤◌, Bool, true, false, ◌&&◌, ◌||◌, eqb, List, sym, refl, ◌∙◌, subst, arith, lit<, lit≤, rules, eq-eqb}
+use Rattle.std.proofs.Common.{◌≡◌, ℕ, ◌-◌, ◌<◌, ◌≤◌, Bool, true, false, ◌&&◌, ◌||◌, eqb, List, sym, ◌∙◌, subst, arith, lit<, lit≤, rules, eq-eqb}
 use Rattle.blocks.specs.Fields.{named}
 use Rattle.directions.specs.Rings.{RingRule, member}
-use Rattle.blocks.specs.Legal.{Way, address_allows, is_label}
-use Rattle.blocks.specs.Places.{ch, Kept, AddressKept, is_response, LabelRead, acknowledgment_of}
+use Rattle.blocks.specs.Legal.{Way, is_label}
+use Rattle.blocks.specs.Places.{ch, acknowledgment_of}
 use Rattle.blocks.proofs.Steps.{kept_more, kept_address, broken_there, address_rule}
 use Rattle.blocks.proofs.heading.read_head.Goals as goal
 use Rattle.blocks.proofs.heading.read_head.Given as given

@@ -1,6 +1,6 @@
-use Rattle.std.proofs.Common.{◌≡◌, ℕ, ◌-◌, ◌<◌, ◌≤◌, true, length, sym, ◌∙◌, arith, rules}
+use Rattle.std.proofs.Common.{◌≡◌, ℕ, ◌-◌, ◌≤◌, true, length, sym, ◌∙◌, arith}
 use Rattle.blocks.specs.Legal.{Way}
-use Rattle.blocks.specs.Places.{ch, place_rule, rest_rule}
+use Rattle.blocks.specs.Places.{ch, place_rule}
 use Rattle.blocks.proofs.Steps.{range_add, rest_rule_lem}
 use Rattle.blocks.proofs.rest.rest_fault.Goals as goal
 use Rattle.blocks.proofs.rest.rest_fault.Given as given

@@ -1,4 +1,4 @@
-use Rattle.std.proofs.Common.{◌≡◌, refl}
+use Rattle.std.proofs.Common.{refl}
 use Rattle.ends.proofs.Cuts.{joined}
 use Rattle.ends.proofs.blocks_out.join.Goals as goal
 

@@ -1,4 +1,4 @@
-use Rattle.std.proofs.Common.{◌≡◌, ℕ, ◌-◌, List, length, take, drop, sym, subst, arith, length-take}
+use Rattle.std.proofs.Common.{ℕ, ◌-◌, List, take, subst, arith, length-take}
 use Rattle.blocks.specs.Fields.{fields_given, written}
 use Rattle.paths.specs.Meaning.{Sized}
 use Rattle.ends.proofs.Cuts.{front, within}

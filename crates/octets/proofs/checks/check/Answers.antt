@@ -1,7 +1,7 @@
 -- A turn takes the next octet off what is left; at the end nothing is left.
-use Rattle.std.proofs.Common.{◌≡◌, ℕ, ◌+◌, ◌∷◌, get_or, drop, sym, ap, ◌∙◌}
+use Rattle.std.proofs.Common.{ℕ, ◌+◌, drop, sym, ap, ◌∙◌}
 use Rattle.std.proofs.lemmas.List.{at_drop_more, at_drop_all}
-use Rattle.octets.specs.Check.{check_from, check, advance}
+use Rattle.octets.specs.Check.{check_from, check}
 use Rattle.octets.proofs.checks.check.Goals as goal
 
 pub loop-octet-preserved : goal.loop-octet-preserved

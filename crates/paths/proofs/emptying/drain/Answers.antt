@@ -1,4 +1,4 @@
-use Rattle.std.proofs.Common.{take, refl, ◌∙◌}
+use Rattle.std.proofs.Common.{refl, ◌∙◌}
 use Rattle.paths.specs.Draining.{started, handed}
 use Rattle.paths.proofs.Using.{fewer}
 use Rattle.paths.proofs.emptying.drain.Goals as goal

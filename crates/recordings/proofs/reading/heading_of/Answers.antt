@@ -1,5 +1,5 @@
 -- A line of less than two octets has no comma at its second place.
-use Rattle.std.proofs.Common.{◌≡◌, ℕ, ◌≤◌, length, arith}
+use Rattle.std.proofs.Common.{◌≤◌, length, arith}
 use Rattle.std.proofs.lemmas.List.{get_or_past}
 use Rattle.recordings.proofs.reading.heading_of.Goals as goal
 

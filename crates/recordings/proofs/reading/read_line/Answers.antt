@@ -1,5 +1,5 @@
 -- What was found of the line says that it is, or is not, the line of a string.
-use Rattle.std.proofs.Common.{◌≡◌, ℕ, ◌+◌, ◌-◌, ◌*◌, ◌/◌, length, refl, arith}
+use Rattle.std.proofs.Common.{◌≡◌, ◌+◌, ◌-◌, ◌*◌, ◌/◌, length, refl, arith}
 use Rattle.recordings.proofs.Strings.{unspelled, decoded_all}
 use Rattle.recordings.proofs.reading.read_line.Goals as goal
 

@@ -1,4 +1,4 @@
-use Rattle.std.proofs.Common.{◌≡◌, ℕ, true, ◌∷◌, refl, ◌∙◌, below_more}
+use Rattle.std.proofs.Common.{◌≡◌, ℕ, true, ◌∷◌, below_more}
 use Rattle.blocks.specs.Legal.{at, address_allows}
 use Rattle.writing.proofs.Tests.{next_before}
 use Rattle.writing.proofs.fields.address_fault.Goals as goal

@@ -1,9 +1,9 @@
-use Rattle.std.proofs.Common.{◌≡◌, ℕ, Bool, true, false, List, length, Some, None, Option, sym, ap, ◌∙◌, subst, lit≤, rules}
+use Rattle.std.proofs.Common.{◌≡◌, ℕ, Bool, true, false, List, length, Some, None, Option, sym, ap, ◌∙◌, subst, lit≤}
 use Rattle.std.proofs.lemmas.Bool.{true≢false}
 use Rattle.directions.specs.Rings.{RingRule, member}
-use Rattle.blocks.specs.Fields.{Fields, fields_given, head_of, named}
+use Rattle.blocks.specs.Fields.{fields_given, head_of, named}
 use Rattle.blocks.specs.Legal.{Way, acknowledges}
-use Rattle.writing.specs.Laying.{AddressTested, AddressGood}
+use Rattle.writing.specs.Laying.{AddressTested}
 use Rattle.writing.proofs.Tests.{good_nine, good_more, good_label, bad_label, bad_address}
 use Rattle.writing.proofs.fields.head_fault.Goals as goal
 use Rattle.writing.proofs.fields.head_fault.Given as given

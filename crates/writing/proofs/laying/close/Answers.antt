@@ -1,5 +1,5 @@
-use Rattle.std.proofs.Common.{◌≡◌, ℕ, ◌+◌, ◌-◌, List, [], ◌∷◌, take, drop, sym, refl, ap, ◌∙◌}
-use Rattle.octets.specs.Check.{check, low, high}
+use Rattle.std.proofs.Common.{ℕ, [], ◌∷◌, refl, ap, ◌∙◌}
+use Rattle.octets.specs.Check.{low, high}
 use Rattle.writing.specs.Laying.{placed}
 use Rattle.writing.proofs.Placing.{three_placed}
 use Rattle.writing.proofs.laying.close.Goals as goal

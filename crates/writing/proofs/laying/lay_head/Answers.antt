@@ -1,4 +1,4 @@
-use Rattle.std.proofs.Common.{◌≡◌, ℕ, List, [], ◌∷◌, ◌++◌, map, length, Option, sym, refl, ap, ◌∙◌}
+use Rattle.std.proofs.Common.{◌≡◌, ℕ, List, [], ◌∷◌, map, ap, ◌∙◌}
 use Rattle.blocks.specs.Fields.{fields_given, head_of, label_of, acknowledgment_character}
 use Rattle.writing.specs.Laying.{placed, laid_octet}
 use Rattle.writing.proofs.Placing.{head_laid}

@@ -1,5 +1,5 @@
-use Rattle.std.proofs.Common.{◌≡◌, ℕ, ◌+◌, ◌≤◌, Bool, List, [], ◌∷◌, map, length, sym, refl, ap, ◌∙◌, subst, arith}
-use Rattle.blocks.specs.Fields.{Fields, fields_given, head_of, label_of, last_of, text_of, tailed}
+use Rattle.std.proofs.Common.{◌≡◌, ℕ, ◌+◌, ◌≤◌, Bool, List, map, length, sym, ap, ◌∙◌, subst, arith}
+use Rattle.blocks.specs.Fields.{fields_given, head_of, label_of, last_of, text_of, tailed}
 use Rattle.writing.specs.Laying.{placed, laid_octet}
 use Rattle.writing.proofs.Placing.{block_laid, tail_length}
 use Rattle.writing.proofs.laying.lay_out.Goals as goal

@@ -1,4 +1,4 @@
-use Rattle.std.proofs.Common.{◌≡◌, ℕ, List, [], ◌∷◌, map, sym, refl, ap, ◌∙◌, arith}
+use Rattle.std.proofs.Common.{ℕ, [], ◌∷◌, map, ap, ◌∙◌, arith}
 use Rattle.writing.specs.Laying.{placed, laid_octet}
 use Rattle.writing.proofs.Placing.{tail_laid}
 use Rattle.writing.proofs.laying.lay_rest.Goals as goal

@@ -1,9 +1,9 @@
-use Rattle.std.proofs.Common.{◌≡◌, ℕ, ◌+◌, List, ◌++◌, length, drop, sym, refl, ap, ◌∙◌, arith}
-use Rattle.blocks.specs.Fields.{fields_given, written, laid}
+use Rattle.std.proofs.Common.{◌≡◌, ℕ, ◌+◌, ◌++◌, length, drop, ap, ◌∙◌, arith}
+use Rattle.blocks.specs.Fields.{fields_given, written}
 use Rattle.blocks.specs.Legal.{Way}
 use Rattle.blocks.proofs.Shapes.{Lawful}
-use Rattle.writing.specs.Laying.{placed, enclosed_by}
-use Rattle.writing.proofs.Written.{laid_as, lengths_of, limit_of}
+use Rattle.writing.specs.Laying.{placed}
+use Rattle.writing.proofs.Written.{laid_as}
 use Rattle.writing.proofs.whole.write.Goals as goal
 use Rattle.writing.proofs.whole.write.Given as given
 

@@ -1,6 +1,5 @@
 -- The front of the number, and then its last digit.
-use Rattle.std.proofs.Common.{◌≡◌, ℕ, ◌^◌, ◌<◌, sym, subst, arith}
-use Rattle.std.proofs.lemmas.Bool.{le-ltb}
+use Rattle.std.proofs.Common.{ℕ, ◌^◌, ◌<◌, sym, subst, arith}
 use Rattle.answers.specs.declared.answer.AnswerLine.{AnswerLine}
 use Rattle.answers.specs.Shown.{Added}
 use Rattle.answers.proofs.Adding.{added_then, front, decimal_front, front_long, front_some, front_none, tenth_long}

@@ -1,9 +1,6 @@
 -- A turn adds the next part.
-use Rattle.std.proofs.Common.{ℕ, List, map, subst, arith}
-use Rattle.std.specs.List.{flat_map}
+use Rattle.std.proofs.Common.{ℕ, List, subst, arith}
 use Rattle.std.proofs.lemmas.List.{take_all}
-use Rattle.octets.specs.Parity.{character}
-use Rattle.answers.specs.Printed.{escaped}
 use Rattle.answers.specs.Shown.{Added}
 use Rattle.answers.proofs.Adding.{added_then, added_none, plain_more}
 use Rattle.answers.proofs.answer.AnswerLine.add.Goals as goal

@@ -1,8 +1,5 @@
 -- What was added so far.
-use Rattle.std.proofs.Common.{◌≡◌, ◌+◌, ◌*◌, ◌≤◌, map, take}
-use Rattle.std.specs.List.{flat_map}
-use Rattle.octets.specs.Parity.{character}
-use Rattle.answers.specs.Printed.{escaped}
+use Rattle.std.proofs.Common.{◌≡◌, ◌+◌, take}
 use Rattle.answers.specs.Shown.{Added}
 use Rattle.answers.proofs.answer.AnswerLine.add.Given as goal
 

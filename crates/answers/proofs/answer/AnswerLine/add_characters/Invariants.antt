@@ -1,8 +1,6 @@
 -- What was added so far.
-use Rattle.std.proofs.Common.{◌≡◌, ◌+◌, ◌*◌, ◌≤◌, map, take}
-use Rattle.std.specs.List.{flat_map}
+use Rattle.std.proofs.Common.{◌≡◌, ◌+◌, map, take}
 use Rattle.octets.specs.Parity.{character}
-use Rattle.answers.specs.Printed.{escaped}
 use Rattle.answers.specs.Shown.{Added}
 use Rattle.answers.proofs.answer.AnswerLine.add_characters.Given as goal
 

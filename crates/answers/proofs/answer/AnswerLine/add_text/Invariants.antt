@@ -1,5 +1,5 @@
 -- What was added so far.
-use Rattle.std.proofs.Common.{◌≡◌, ◌+◌, ◌*◌, ◌≤◌, map, take}
+use Rattle.std.proofs.Common.{◌+◌, ◌*◌, ◌≤◌, map, take}
 use Rattle.std.specs.List.{flat_map}
 use Rattle.octets.specs.Parity.{character}
 use Rattle.answers.specs.Printed.{escaped}

@@ -1,5 +1,5 @@
 -- The parts of the block make the line.
-use Rattle.std.proofs.Common.{◌≡◌, ℕ, cond, [], ◌∷◌, ◌++◌, map, length, codes, sym, refl, ap, ◌∙◌}
+use Rattle.std.proofs.Common.{cond, [], ◌∷◌, ◌++◌, map, length, codes, sym, ap, ◌∙◌}
 use Rattle.std.specs.List.{flat_map}
 use Rattle.std.proofs.lemmas.Bool.{le-leb}
 use Rattle.octets.specs.Parity.{character}

@@ -1,5 +1,5 @@
 -- Count, direction, number and place make the line.
-use Rattle.std.proofs.Common.{◌≡◌, ℕ, [], ◌∷◌, ◌++◌, decimal, sym, ap, ◌∙◌, subst}
+use Rattle.std.proofs.Common.{ℕ, [], ◌∷◌, ◌++◌, decimal, sym, ap, ◌∙◌, subst}
 use Rattle.blocks.specs.Faults.{number_of, place_of}
 use Rattle.answers.specs.declared.answer.AnswerLine.{AnswerLine}
 use Rattle.answers.specs.Printed.{placed}

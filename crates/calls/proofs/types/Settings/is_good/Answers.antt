@@ -1,4 +1,4 @@
-use Rattle.std.proofs.Common.{◌≡◌, ℕ, ◌&&◌, eqb, leb, sym, refl, ◌∙◌, arith, ne_eqb}
+use Rattle.std.proofs.Common.{◌≡◌, ℕ, ◌&&◌, leb, sym, ◌∙◌, arith, ne_eqb}
 use Rattle.calls.specs.declared.types.Settings.{Settings}
 use Rattle.calls.specs.Setting.{setting_good}
 use Rattle.calls.proofs.types.Settings.is_good.Goals as goal

@@ -1,4 +1,4 @@
-use Rattle.std.proofs.Common.{arith, rules}
+use Rattle.std.proofs.Common.{arith}
 use Rattle.directions.specs.Openings.{reads_short, reads_long}
 use Rattle.directions.proofs.downlink.DownlinkDirection.mark.Goals as goal
 

@@ -1,5 +1,4 @@
-use Rattle.std.proofs.Common.{◌≡◌, sym}
-use Rattle.ends.specs.Model.{Ways}
+use Rattle.std.proofs.Common.{sym}
 use Rattle.ends.specs.Ends.{model}
 use Rattle.ends.proofs.Countings.{kept_none}
 use Rattle.ends.proofs.end.End.advance.Goals as goal

@@ -1,5 +1,4 @@
-use Rattle.std.proofs.Common.{◌≡◌, sym, ◌∙◌}
-use Rattle.stores.specs.Held.{held}
+use Rattle.std.proofs.Common.{sym, ◌∙◌}
 use Rattle.ends.specs.Model.{Ways}
 use Rattle.ends.specs.Ends.{model, outbox_of}
 use Rattle.ends.proofs.Places.{plan_there}

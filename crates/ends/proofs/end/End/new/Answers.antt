@@ -1,4 +1,3 @@
-use Rattle.std.proofs.Common.{rules}
 use Rattle.stores.specs.Held.{held}
 use Rattle.calls.specs.Setting.{Good}
 use Rattle.ends.proofs.Empty.{fresh_empty, waits_within}

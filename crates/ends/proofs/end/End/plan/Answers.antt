@@ -1,7 +1,5 @@
-use Rattle.std.proofs.Common.{◌≡◌, sym, ap, ◌∙◌, subst}
-use Rattle.stores.specs.Held.{held}
+use Rattle.std.proofs.Common.{sym, ◌∙◌}
 use Rattle.ends.specs.Ends.{model}
-use Rattle.ends.specs.Sending.{plan_of}
 use Rattle.ends.proofs.Places.{from_zero, plan_none, planned}
 use Rattle.ends.proofs.end.End.plan.Goals as goal
 

@@ -1,9 +1,6 @@
-use Rattle.std.proofs.Common.{◌≡◌, ℕ, ◌+◌, sym, ap, ◌∙◌, subst, arith}
-use Rattle.stores.specs.Held.{held}
-use Rattle.ends.specs.declared.types.Cell.{Cell}
+use Rattle.std.proofs.Common.{sym, ◌∙◌}
 use Rattle.ends.specs.Ends.{model}
-use Rattle.ends.specs.Sending.{plan_of_cell}
-use Rattle.ends.proofs.Places.{place_from, from_zero, plan_at_lem, plan_is, plan_there}
+use Rattle.ends.proofs.Places.{plan_is, plan_there}
 use Rattle.ends.proofs.end.End.plan_at.Goals as goal
 
 pub returns : goal.returns

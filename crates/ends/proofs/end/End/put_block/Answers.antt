@@ -1,4 +1,4 @@
-use Rattle.std.proofs.Common.{◌≡◌, sym, refl, ap, ◌∙◌, subst}
+use Rattle.std.proofs.Common.{sym}
 use Rattle.stores.specs.Held.{stored, held}
 use Rattle.ends.specs.Ends.{model}
 use Rattle.ends.proofs.Places.{both, record_there}

@@ -1,4 +1,4 @@
-use Rattle.std.proofs.Common.{◌≡◌, ℕ, ◌+◌, eqb, sym, refl, ap, ◌∙◌, subst}
+use Rattle.std.proofs.Common.{◌+◌, eqb, ap, subst}
 use Rattle.blocks.specs.Fields.{Fields}
 use Rattle.ends.specs.Steps.{Sent}
 use Rattle.ends.proofs.Sendings.{same_fields, front_of}

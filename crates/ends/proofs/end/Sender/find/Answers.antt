@@ -1,4 +1,4 @@
-use Rattle.std.proofs.Common.{ℕ, ◌<◌, arith, below_more}
+use Rattle.std.proofs.Common.{◌<◌, arith, below_more}
 use Rattle.stores.specs.Held.{held}
 use Rattle.ends.proofs.Wanted.{place_none, place_some}
 use Rattle.ends.proofs.end.Sender.find.Goals as goal

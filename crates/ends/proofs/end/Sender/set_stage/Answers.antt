@@ -1,4 +1,4 @@
-use Rattle.std.proofs.Common.{◌≡◌, List, sym, ap, ◌∙◌}
+use Rattle.std.proofs.Common.{List, sym, ap, ◌∙◌}
 use Rattle.stores.specs.Held.{Stored, held}
 use Rattle.ends.specs.declared.types.Cell.{Cell}
 use Rattle.ends.specs.Ends.{outbox_of}

@@ -1,4 +1,4 @@
-use Rattle.std.proofs.Common.{◌≡◌, ◌≤◌, map, length, take}
+use Rattle.std.proofs.Common.{◌≡◌, map, length, take}
 use Rattle.paths.specs.Fates.{fate_of}
 use Rattle.paths.proofs.held.Fates.read.Given as goal
 

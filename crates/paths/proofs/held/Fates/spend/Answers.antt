@@ -1,4 +1,4 @@
-use Rattle.std.proofs.Common.{◌<◌, ◌≤◌, length, sym, ap, ◌∙◌, arith}
+use Rattle.std.proofs.Common.{sym, ap, ◌∙◌, arith}
 use Rattle.paths.specs.Fates.{next, later}
 use Rattle.paths.proofs.Coming.{none_left, one_left}
 use Rattle.paths.proofs.held.Fates.spend.Goals as goal

@@ -1,5 +1,5 @@
 -- Octet by octet, up to a line feed.
-use Rattle.std.proofs.Common.{◌≡◌, ℕ, List, take, subst, arith}
+use Rattle.std.proofs.Common.{ℕ, List, take, subst, arith}
 use Rattle.std.proofs.ByRecursion.{All-more}
 use Rattle.std.proofs.lemmas.List.{take_all}
 use Rattle.recordings.specs.Split.{Unbroken, Joins}
