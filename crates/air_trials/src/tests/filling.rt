@@ -60,10 +60,10 @@ fn lines_lie_as_they_should(rt: HostRuntime) -> Result<(), Fail> {
     let mut frame = frame_line(rt.alloc(), 10)?;
     frame.put(b"abc")?;
     frame.put(b"def")?;
-    assert!(rt; frame.memory() == b"\x00\x03abc\x00\x03def");
+    assert!(rt; frame.memory() == b"\x00\x03abc\x00\x03def".as_slice());
     let mut character = character_line(rt.alloc(), 8)?;
     character.put(b"\x97efg")?;
-    assert!(rt; character.memory() == b"\xAB\x2A\x16\x16\x97efg");
+    assert!(rt; character.memory() == b"\xAB\x2A\x16\x16\x97efg".as_slice());
     Ok(())
 }
 
