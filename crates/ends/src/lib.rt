@@ -19,6 +19,7 @@ mod types;
 mod waits;
 mod withdraws;
 
+pub use calls::{Heard, Label, LinkFault, Outcome, Settings, Ticked};
 pub use end::End;
 pub use memory::Memory;
 pub use types::{Cell, Clock, PartHead, Plan, Stage};
