@@ -1,6 +1,6 @@
 -- No two different results print alike.
 use Rattle.std.proofs.Common.{◌≡◌, ℕ, ◌+◌, ◌%◌, ◌^◌, ◌<◌, ◌≤◌, Bool, true, false, cond, eqb, ltb, leb, List, [], ◌∷◌, ◌++◌, length, get_or, drop, Some, None, codes, decimal, Option, sym, refl, ap, ◌∙◌, subst, ⊎_elim, arith, length-append}
-use Rattle.std.specs.List.{flat_map, AllByRecursion as All}
+use Rattle.std.specs.List.{flat_map, AllByRecursion}
 use Rattle.std.proofs.lemmas.Fmt.{decimal_by_steps, decimal_injective, decimal_nonempty}
 use Rattle.std.proofs.ByRecursion.{All-push}
 use Rattle.std.proofs.lemmas.List.{same_from_push}
@@ -19,16 +19,16 @@ use Rattle.answers.specs.Laws.{way_of, Small, Possible, PrintedApart}
 abbrev pub Figure : ℕ → Type 0
 Figure c = (48 ≤ c) × (c < 58)
 
-pub figures : (n : ℕ) → n < 2 ^ 64 → All Figure (decimal n)
+pub figures : (n : ℕ) → n < 2 ^ 64 → AllByRecursion Figure (decimal n)
 figures n small =
-    decimal_by_steps (λ (k : ℕ) (ds : List ℕ). All Figure ds)
+    decimal_by_steps (λ (k : ℕ) (ds : List ℕ). AllByRecursion Figure ds)
     (λ k h. ((omega arith, omega arith), tt))
     (λ k ds h ih. let r : k % 10 < 10 = omega arith in All-push Figure ds (48 + k % 10) ih (omega arith, omega arith))
     n small
 
 -- figures up to a comma are told apart from what follows
 pub comma_split :
-    (xs ys X Y : List ℕ) → All Figure xs → All Figure ys → xs ++ (44 ∷ X) ≡ ys ++ (44 ∷ Y) → (xs ≡ ys) × (X ≡ Y)
+    (xs ys X Y : List ℕ) → AllByRecursion Figure xs → AllByRecursion Figure ys → xs ++ (44 ∷ X) ≡ ys ++ (44 ∷ Y) → (xs ≡ ys) × (X ≡ Y)
 comma_split [] [] X Y p q e = let k : X ≡ Y = cc in (refl, k)
 comma_split [] (y ∷ ys) X Y p ((low, high), q) e = let k : 44 ≡ y = cc in absurd (omega arith)
 comma_split (x ∷ xs) [] X Y ((low, high), p) q e = let k : x ≡ 44 = cc in absurd (omega arith)
@@ -155,7 +155,7 @@ heads_apart h k x y X Y long also p q e =
 placed_word : (p : Option ℕ) (c : ℕ) (X : List ℕ) → Small p → 58 ≤ c → placed p ≡ c ∷ X → ⊥
 placed_word None c X small high e = let k : ◌≡◌ {A = ℕ} 0 1 = cc in omega arith
 placed_word (Some n) c X small high e =
-    let ((low, below), rest) = subst (All Figure) e (figures n small) in omega arith
+    let ((low, below), rest) = subst (AllByRecursion Figure) e (figures n small) in omega arith
 
 placed_apart : (p q : Option ℕ) → Small p → Small q → placed p ≡ placed q → p ≡ q
 placed_apart None None small little e = refl

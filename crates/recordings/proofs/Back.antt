@@ -1,6 +1,6 @@
 -- The line of a string reads back as that string.
 use Rattle.std.proofs.Common.{◌≡◌, ℕ, zero, suc, ◌+◌, ◌*◌, ◌/◌, ◌%◌, ◌<◌, Bool, true, false, List, [], ◌∷◌, length, get_or, take, Some, None, sym, refl, ◌∙◌, subst, inl, inr, arith}
-use Rattle.std.specs.List.{AllByRecursion as All}
+use Rattle.std.specs.List.{AllByRecursion}
 use Rattle.std.proofs.lemmas.List.{ext_get_or}
 use Rattle.std.proofs.lemmas.Bool.Decides.{nat_tests}
 use Rattle.recordings.specs.declared.heading.Heading.{Heading}
@@ -61,7 +61,7 @@ hex_digit_is true v = inl refl
 hex_digit_is false v = inr refl
 
 hex_spells :
-    (capital : ℕ → Bool) (s : List ℕ) (i : ℕ) → i < length s → All (λ (o : ℕ). o < 256) s →
+    (capital : ℕ → Bool) (s : List ℕ) (i : ℕ) → i < length s → AllByRecursion (λ (o : ℕ). o < 256) s →
     Spells (get_or (hex_of capital s) (2 * i) 0) (get_or (hex_of capital s) (1 + 2 * i) 0) (get_or s i 0)
 hex_spells capital [] i below octets = absurd (omega arith)
 hex_spells capital (o ∷ os) zero below (small, octets) =

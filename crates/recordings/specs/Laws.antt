@@ -1,7 +1,7 @@
 -- What holds of input lines.
 -- Assumes nothing.
 use Rattle.std.specs.Prelude.{◌≡◌, ℕ, ◌+◌, ◌/◌, ◌%◌, ◌<◌, ◌≤◌, Bool, List, [], ◌∷◌, length, take, Some, None, Option}
-use Rattle.std.specs.List.{AllByRecursion as All}
+use Rattle.std.specs.List.{AllByRecursion}
 use Rattle.recordings.specs.declared.heading.Heading.{Heading}
 use Rattle.recordings.specs.declared.heading.Recorded.{Recorded}
 use Rattle.recordings.specs.Recorded.{letter, hex_digit, LineOf, Unread, Reading}
@@ -18,7 +18,7 @@ line_of h capital string = letter h ∷ (44 ∷ hex_of capital string)
 -- a string of octets has a line in every mixture of capitals and small letters
 abbrev pub LinesStand : Type 0
 LinesStand =
-    (h : Heading) (capital : ℕ → Bool) (string : List ℕ) → length string ≤ 511 → All (λ (o : ℕ). o < 256) string →
+    (h : Heading) (capital : ℕ → Bool) (string : List ℕ) → length string ≤ 511 → AllByRecursion (λ (o : ℕ). o < 256) string →
     LineOf h string (line_of h capital string)
 
 -- the line was read as this direction and this string

@@ -1,7 +1,7 @@
 -- Cutting the input into lines.
 -- Assumes nothing.
 use Rattle.std.specs.Prelude.{◌≡◌, ℕ, ◌<◌, ◌≤◌, Bool, true, false, cond, List, [], ◌∷◌, ◌++◌, map, length, take, Some, None, Option, ◌≢◌, nat_le}
-use Rattle.std.specs.List.{flat_map, AllByRecursion as All}
+use Rattle.std.specs.List.{flat_map, AllByRecursion}
 use Rattle.recordings.specs.declared.splitter.Splitter.{Splitter}
 
 -- what is kept of a line: itself, or that it is over 1,024 octets long
@@ -18,7 +18,7 @@ Holds s p = Kept s.over (take s.used s.octets) p
 
 -- no octet of the list is a line feed
 abbrev pub Unbroken : List ℕ → Type 0
-Unbroken xs = All (λ (c : ℕ). c ≢ 10) xs
+Unbroken xs = AllByRecursion (λ (c : ℕ). c ≢ 10) xs
 
 -- octets joined the line
 abbrev pub Joins : Splitter → List ℕ → Splitter → Type 0
@@ -58,7 +58,7 @@ pub record Cut (s : Splitter) (said : List (Option (List ℕ))) (input : List �
   pub lines : List (List ℕ)
   pub last : List ℕ
   pub input_is : input ≡ flat_map closed lines ++ last
-  pub unbroken : All Unbroken lines
+  pub unbroken : AllByRecursion Unbroken lines
   pub going : Unbroken last
   pub said_is : said ≡ map told lines
   pub holds : Holds s last
