@@ -1,6 +1,6 @@
 -- The model of an end.
 -- Assumes nothing.
-use Rattle.std.specs.Prelude.{◌≡◌, ℕ, List, Some, None, Ok, Err, Option, Result}
+use Rattle.std.specs.Prelude.{◌≡◌, ℕ, List, [], Some, None, Ok, Err, Option, Result}
 use Rattle.blocks.specs.Fields.{named}
 use Rattle.stores.specs.Texts.{octets_of}
 use Rattle.stores.specs.Held.{Stored, stored, held}
@@ -8,6 +8,7 @@ use Rattle.ends.specs.declared.types.PartHead.{PartHead}
 use Rattle.ends.specs.declared.end.Sender.{Sender}
 use Rattle.ends.specs.declared.end.Receiver.{Receiver}
 use Rattle.ends.specs.declared.end.End.{End}
+use Rattle.ends.specs.declared.memory.Memory.{Memory}
 use Rattle.calls.specs.declared.types.Settings.{Settings}
 use Rattle.calls.specs.declared.fault.LinkFault.{LinkFault}
 use Rattle.ends.specs.Model.{Outbox, Inbox, Model, new_model}
@@ -24,6 +25,12 @@ part_of (Some p) text = Some (stored p text)
 
 abbrev pub inbox_of : Receiver → Inbox
 inbox_of r = record { accepted = named r.accepted; owed = r.owed; part = part_of r.part (octets_of r.text); waiting = held r.waiting }
+
+-- memory of an end in which no message lies, and no text of a part
+pub record Unused (m : Memory) : Type 0 where
+  pub cells : held m.cells ≡ []
+  pub waiting : held m.waiting ≡ []
+  pub text : octets_of m.text ≡ []
 
 module _ {O I : Type 0} where
   abbrev pub model : End O I → Model

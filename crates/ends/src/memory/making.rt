@@ -1,5 +1,6 @@
 // Reserving memory, and making an end in it.
-ghost use Rattle.ends.specs.Ends.{Made};
+ghost use Rattle.std.specs.Prelude.{IfOk};
+ghost use Rattle.ends.specs.Ends.{Made, Unused};
 
 use super::Memory;
 use crate::checked::Checked;
@@ -12,8 +13,10 @@ use std::marker::PhantomData;
 use stores::{MessageStore, Text};
 
 impl Memory {
-    // Reserves the memory of an end. Nothing else can fail for want of memory.
-    pub fn reserve(heap: Global) -> Result<Memory, AllocError> {
+    // Reserves the memory of an end; no message lies in it. Nothing else can fail for want of memory.
+    pub fn reserve(heap: Global) -> Result<Memory, AllocError>
+        ensures { IfOk result (λ m. Unused m) }
+    {
         let cells = MessageStore::reserve(heap)?;
         let waiting = MessageStore::reserve(heap)?;
         let text = Text::reserve(heap)?;
