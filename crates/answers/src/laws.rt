@@ -1,9 +1,11 @@
 // What holds of all answers.
+ghost use Rattle.std.specs.Prelude.{◌≡◌};
 ghost use Rattle.answers.specs.Answered.{AnswersApart};
 ghost use Rattle.answers.specs.Laws.{PrintedApart};
 
 // No two different results print alike, so an answer alone tells what its input line is.
 pub fn answers_stand() -> u8
+    ensures value { result ≡ 0 }
     ensures apart { PrintedApart }
     ensures told { AnswersApart }
 {

@@ -1,6 +1,7 @@
 // The two directions of a link: a ring of identifiers each, and a text rule added to it.
 #![tactic(auto)]
 
+ghost use Rattle.std.specs.Prelude.{◌≡◌};
 ghost use Rattle.directions.specs.RingFacts.{RingFacts, NeverJoined, Turns};
 
 mod classes;
@@ -17,6 +18,7 @@ pub use uplink::Uplink;
 
 // The facts of a ring of any size, and the two turns of this link's rings.
 pub fn rings_stand() -> u8
+    ensures value { result ≡ 0 }
     ensures facts { RingFacts }
     ensures turns { Turns }
 {
@@ -25,7 +27,8 @@ pub fn rings_stand() -> u8
 
 // Another message's first block never continues an open part when its identifier is 2 to N − 1 steps on.
 pub fn first_blocks_stay_apart() -> u8
-    ensures { NeverJoined }
+    ensures value { result ≡ 0 }
+    ensures law { NeverJoined }
 {
     0
 }

@@ -1,10 +1,12 @@
 // That what the lines say of their calls leaves nothing open.
+ghost use Rattle.std.specs.Prelude.{◌≡◌, true};
 ghost use Rattle.lines.specs.Outcome.{LinesDetermined};
 
 // Carries a theorem: from one state and one string, one answer and one state, for both lines and for a fade box over
 // either.
 pub fn lines_determined() -> bool
-    ensures { LinesDetermined }
+    ensures value { result ≡ true }
+    ensures law { LinesDetermined }
 {
     true
 }

@@ -1,4 +1,5 @@
 // That exactness passes through layers.
+ghost use Rattle.std.specs.Prelude.{◌≡◌, true};
 ghost use Rattle.paths.specs.Outcome.{Determined};
 ghost use Rattle.paths.specs.Fading.{FadePuts, FadeTakes};
 
@@ -6,7 +7,8 @@ use crate::path::AirPath;
 
 // Carries a theorem: over a path whose outcomes are determined, those of a fade box are determined too.
 pub fn fade_box_determined<P: AirPath>() -> bool
-    ensures { Determined P.AirPath.puts P.AirPath.takes → Determined (FadePuts P.AirPath.puts) (FadeTakes P.AirPath.takes) }
+    ensures value { result ≡ true }
+    ensures law { Determined P.AirPath.puts P.AirPath.takes → Determined (FadePuts P.AirPath.puts) (FadeTakes P.AirPath.takes) }
 {
     true
 }

@@ -1,6 +1,7 @@
 // Writing a block into a buffer, and the round trip of reading and writing.
 #![tactic(auto)]
 
+ghost use Rattle.std.specs.Prelude.{◌≡◌};
 ghost use Rattle.writing.specs.RoundTrip.{EveryRoundTrip};
 
 mod fields;
@@ -11,7 +12,8 @@ pub use whole::write;
 
 // Reading accepts exactly the strings that writing makes, with the same fields.
 pub fn round_trip_stands() -> u8
-    ensures { EveryRoundTrip }
+    ensures value { result ≡ 0 }
+    ensures law { EveryRoundTrip }
 {
     0
 }

@@ -3,5 +3,8 @@ use Rattle.answers.proofs.Apart.{printed_apart}
 use Rattle.answers.proofs.Told.{answers_apart}
 use Rattle.answers.proofs.laws.answers_stand.Goals as goal
 
-pub returns : goal.returns
-returns c = record { apart = printed_apart; told = answers_apart }
+pub returns-clause-apart : goal.returns-clause-apart
+returns-clause-apart c = printed_apart
+
+pub returns-clause-told : goal.returns-clause-told
+returns-clause-told c = answers_apart
