@@ -14,3 +14,4 @@ pub mod Takes
 pub mod Withdrawals
 pub mod Places
 pub mod Relating
+pub mod Withdraws

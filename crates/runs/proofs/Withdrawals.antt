@@ -29,7 +29,7 @@ stage_unbegun k x [] u = tt
 stage_unbegun zero x (c ∷ cs) u = (tt, u.1)
 stage_unbegun (suc k) x (c ∷ cs) u = (u.0, stage_unbegun k x cs u.1)
 
-stage_orderly : (room k : ℕ) → Counted room → (x : Outcome) (cs : List (Stored Cell)) → Orderly room cs → Orderly room (stage_at k (Settled x) cs)
+pub stage_orderly : (room k : ℕ) → Counted room → (x : Outcome) (cs : List (Stored Cell)) → Orderly room cs → Orderly room (stage_at k (Settled x) cs)
 stage_orderly room k C x [] o = tt
 stage_orderly room zero C x (c ∷ cs) o = go c.«record».stage o
   where
@@ -76,7 +76,7 @@ called_settled {n = n} lo hi (stands_later {c = c} {cs = cs} q) b x s j =
 
 -- a message that is begun is the first unsettled one
 
-none_begun : {n a : ℕ} {l : Label} {t : List ℕ} {g : Bool} {k : ℕ} {cs : List (Stored Cell)} → Stands n l t a g k cs → AllUnbegun cs → begun (Unsettled a g) ≡ true → ⊥
+pub none_begun : {n a : ℕ} {l : Label} {t : List ℕ} {g : Bool} {k : ℕ} {cs : List (Stored Cell)} → Stands n l t a g k cs → AllUnbegun cs → begun (Unsettled a g) ≡ true → ⊥
 none_begun {a = a} {g = g} stands_here u e =
     clash (sym (ap (λ (y : Bool). begun (Unsettled 0 y)) u.0.1) ∙ sym (ap (λ (b : ℕ). begun (Unsettled b g)) u.0.0) ∙ e)
 none_begun (stands_later q) u e = none_begun q u.1 e
