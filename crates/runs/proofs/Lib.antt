@@ -15,3 +15,4 @@ pub mod Withdrawals
 pub mod Places
 pub mod Relating
 pub mod Withdraws
+pub mod Speaks
