@@ -16,3 +16,4 @@ pub mod Places
 pub mod Relating
 pub mod Withdraws
 pub mod Speaks
+pub mod Local
