@@ -17,3 +17,4 @@ pub mod Relating
 pub mod Withdraws
 pub mod Speaks
 pub mod Local
+pub mod Ticking

@@ -43,7 +43,7 @@ abbrev pub inward : Ways → ℕ → Direction
 inward w originator = direction_of w.inn.own w.inn.text originator
 
 -- one cell, however it is found
-same_cell : (b c : Stored Cell) → ◌≡◌ {A = std.Option (Stored Cell)} (Some b) (Some c) → b ≡ c
+pub same_cell : (b c : Stored Cell) → ◌≡◌ {A = std.Option (Stored Cell)} (Some b) (Some c) → b ≡ c
 same_cell b c e = ap (λ (x : std.Option (Stored Cell)). elim x [ None ↦ b | Some y ↦ y ]) e
 
 -- a refused call changes nothing

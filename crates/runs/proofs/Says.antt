@@ -56,7 +56,7 @@ pub record Copied (w : Way) (g : List ℕ) (p : Packet) (cs : List (List ℕ)) :
   pub copies : Copies p packets
   pub say : AllSay w g cs packets
 
-pub copied : {w : Way} {g : List ℕ} {s : List ℕ} {p : Packet} → Says w g s p → (cs : List (List ℕ)) → Each (Arrives s) cs → Copied w g p cs
+unfoldable pub copied : {w : Way} {g : List ℕ} {s : List ℕ} {p : Packet} → Says w g s p → (cs : List (List ℕ)) → Each (Arrives s) cs → Copied w g p cs
 copied q [] e = record { packets = []; copies = no_more; say = none_waits }
 copied {w = w} {g = g} {p = p} q (c ∷ cs) (inl f, e) =
     let K = copied q cs e in

@@ -120,7 +120,7 @@ module _ (room : ℕ) (m : Bool) where
 
 -- a message that is not begun is not under way
 
-course_number : (n : ℕ) (l : List ℕ) (ds ts : List Text) (a : ℕ) → number_of (course_from n l ds ts a) ≡ n
+pub course_number : (n : ℕ) (l : List ℕ) (ds ts : List Text) (a : ℕ) → number_of (course_from n l ds ts a) ≡ n
 course_number n l ds [] a = refl
 course_number n l ds (t ∷ us) zero = refl
 course_number n l ds (t ∷ us) (suc a) = course_number n l (t ∷ ds) us a
