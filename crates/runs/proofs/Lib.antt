@@ -18,3 +18,5 @@ pub mod Withdraws
 pub mod Speaks
 pub mod Local
 pub mod Ticking
+pub mod Currents
+pub mod Hears
