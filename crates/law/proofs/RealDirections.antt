@@ -32,10 +32,10 @@ sound_from r t o two j = record {
 letters : (o m i : ℕ) → down_joining (Some (Numbered o m (65 + i))) (Numbered o m (65 + suc i)) true ≡ Continues
 letters o m i = rw (ne_eqb (65 + suc i) 65 (λ e. omega arith), eq-eqb o o refl, eq-eqb m m refl, eq-eqb (65 + i + 1) (65 + suc i) (omega arith))
 
-down_joins : Joins down_text
+pub down_joins : Joins down_text
 down_joins = record { begins = λ o n b. refl; follows = λ o n i. letters o ((n - 1) % 99 + 1) i; parts = λ p o n. refl }
 
-up_joins : Joins up_text
+pub up_joins : Joins up_text
 up_joins = record { begins = λ o n b. refl; follows = λ o n i. refl; parts = λ p o n. refl }
 
 pub real_directions : RealDirections

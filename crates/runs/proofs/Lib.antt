@@ -20,3 +20,4 @@ pub mod Local
 pub mod Ticking
 pub mod Currents
 pub mod Hears
+pub mod Serving
