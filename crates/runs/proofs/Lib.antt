@@ -21,3 +21,4 @@ pub mod Ticking
 pub mod Currents
 pub mod Hears
 pub mod Serving
+pub mod Mapped
