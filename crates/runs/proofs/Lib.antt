@@ -22,3 +22,4 @@ pub mod Currents
 pub mod Hears
 pub mod Serving
 pub mod Mapped
+pub mod Deeds
