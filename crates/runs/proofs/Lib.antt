@@ -23,3 +23,4 @@ pub mod Hears
 pub mod Serving
 pub mod Mapped
 pub mod Deeds
+pub mod Transfer
