@@ -20,12 +20,12 @@ use Rattle.runs.proofs.Senders.{SenderIs}
 use Rattle.runs.proofs.Counting.{counted_box, count_is}
 
 -- a phase is that of a block gone out
-abbrev is_out : Phase → Bool
+abbrev pub is_out : Phase → Bool
 is_out (idle m) = false
 is_out (ready z) = false
 is_out (out z) = true
 
-out_same : (room : ℕ) (m : Bool) (cs : List (Stored Cell)) → is_out (phase_of room m cs) ≡ current_out cs
+pub out_same : (room : ℕ) (m : Bool) (cs : List (Stored Cell)) → is_out (phase_of room m cs) ≡ current_out cs
 out_same room m [] = refl
 out_same room m (c ∷ cs) = go c.«record».stage (out_same room m cs)
   where

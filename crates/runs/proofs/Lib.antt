@@ -24,3 +24,4 @@ pub mod Serving
 pub mod Mapped
 pub mod Deeds
 pub mod Transfer
+pub mod Clean

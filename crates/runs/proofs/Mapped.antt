@@ -10,7 +10,7 @@ use Rattle.law.specs.Senders.{Status, unsettled}
 use Rattle.law.specs.Links as law
 use Rattle.law.specs.Links.{Side, air, ground}
 use Rattle.runs.specs.Links.{Strings, Link, link, Deed, down_way, up_way, ways_of, Serves, Event, at, Step, at_air, at_ground, Accepted, Run, begin, ◌then◌, Onward, same, onward}
-use Rattle.runs.specs.History.{calls, told_of}
+use Rattle.runs.specs.History.{end_of, calls, told_of}
 use Rattle.runs.proofs.Rings.{no_one}
 use Rattle.runs.proofs.Senders.{new_sender_is}
 use Rattle.runs.proofs.Receivers.{none_wait, shut}
@@ -58,38 +58,38 @@ pub record RunIs (n : Names) (h : List Event) (l : Link) : Type 0 where
   pub is : LinkIs n h l end_link
   pub maps : HistoryIs h history
 
--- one step more
-pub record StepIs (n : Names) (h : List Event) (l' : Link) (x : Event) (k : law.Link) : Type 0 where
-  pub event : law.Event
+-- one step more: a call at a side
+pub record StepIs (n : Names) (h : List Event) (l l' : Link) (s : Side) (x : Deed) (k : law.Link) : Type 0 where
+  pub doing : law.Doing
   pub after : law.Link
-  pub step : law.Step (down_of n) (up_of n) k event after
-  pub is : LinkIs n (x ∷ h) l' after
-  pub maps : {j : List law.Event} → HistoryIs h j → HistoryIs (x ∷ h) (event ∷ j)
+  pub step : law.Step (down_of n) (up_of n) k (law.at s doing) after
+  pub is : LinkIs n (at s x ∷ h) l' after
+  pub deed : DeedIs (ways_of s) (end_of s l) x doing
 
 still_bears : {m m' : Model} {o : ℕ} {r : List ℕ} → m'.settings ≡ m.settings → Bears m o r → Bears m' o r
 still_bears e B = record { originator_is = ap (λ (s : Settings). s.originator) e ∙ B.originator_is; registration_is = ap (λ (s : Settings). s.registration) e ∙ B.registration_is }
 
 module _ (n : Names) (h : List Event) where
-  pub step_is : {l l' : Link} {x : Event} {k : law.Link} → Step l x l' → LinkIs n h l k → StepIs n h l' x k
+  pub step_is : {l l' : Link} {s : Side} {x : Deed} {k : law.Link} → Step l (at s x) l' → LinkIs n h l k → StepIs n h l l' s x k
   step_is (at_air {a = a} {a' = a'} {d = d} {d' = d'} {u = u} {u' = u'} {x = x} s) (link_is {ea = ea} {eg = eg} {pd = pd} {pu = pu} A G D U B C) =
       let V = serves_is (ways_of air) (paired air) n.ground_end (subst (λ (r : List ℕ). AllSay up_way r u pu) (sym B.registration_is) U) (subst (λ (r : List ℕ). AllSay down_way r d pd) (sym B.registration_is) D) A x s in
       record {
-        event = law.at air V.doing;
+        doing = V.doing;
         after = law.link V.end_after eg V.out_after V.in_after;
         step = law.at_air (subst (λ (o : ℕ). law.Move (direction_of down_ring down_text o) (up_of n) ea pu pd V.doing V.end_after V.in_after V.out_after) B.originator_is V.move);
         is = link_is V.is G (subst (λ (r : List ℕ). AllSay down_way r d' V.out_after) B.registration_is V.out_say) (subst (λ (r : List ℕ). AllSay up_way r u' V.in_after) B.registration_is V.in_say)
             (still_bears V.settings B) C;
-        maps = λ q. one_call air V.deed q;
+        deed = V.deed;
       }
   step_is (at_ground {g = g} {g' = g'} {d = d} {d' = d'} {u = u} {u' = u'} {x = x} s) (link_is {ea = ea} {eg = eg} {pd = pd} {pu = pu} A G D U B C) =
       let V = serves_is (ways_of ground) (paired ground) n.aircraft (subst (λ (r : List ℕ). AllSay down_way r d pd) (sym C.registration_is) D) (subst (λ (r : List ℕ). AllSay up_way r u pu) (sym C.registration_is) U) G x s in
       record {
-        event = law.at ground V.doing;
+        doing = V.doing;
         after = law.link ea V.end_after V.in_after V.out_after;
         step = law.at_ground (subst (λ (o : ℕ). law.Move (direction_of up_ring up_text o) (down_of n) eg pd pu V.doing V.end_after V.in_after V.out_after) C.originator_is V.move);
         is = link_is A V.is (subst (λ (r : List ℕ). AllSay down_way r d' V.in_after) C.registration_is V.in_say) (subst (λ (r : List ℕ). AllSay up_way r u' V.out_after) C.registration_is V.out_say)
             B (still_bears V.settings C);
-        maps = λ q. one_call ground V.deed q;
+        deed = V.deed;
       }
 
 -- the settings with which a run began
@@ -113,10 +113,10 @@ run_at n (begin {a = a} {g = g} A G e) f = record {
       (record { originator_is = ap (λ (y : Names). y.ground_end) f; registration_is = sym e ∙ ap (λ (y : Names). y.registration) f });
   maps = no_calls;
 }
-run_at n (◌then◌ {h = h} r s) f =
+run_at n (◌then◌ {h = h} {x = at s x} r t) f =
     let I = run_at n r f in
-    let S = step_is n h s I.is in
-    record { history = S.event ∷ I.history; end_link = S.after; run = law.◌then◌ I.run S.step; is = S.is; maps = S.maps I.maps }
+    let S = step_is n h t I.is in
+    record { history = law.at s S.doing ∷ I.history; end_link = S.after; run = law.◌then◌ I.run S.step; is = S.is; maps = one_call s S.deed I.maps }
 
 abbrev pub run_is : {h : List Event} {l : Link} (r : Run h l) → RunIs (names_of r) h l
 run_is r = run_at (names_of r) r refl
@@ -129,7 +129,7 @@ pub record OnwardIs (n : Names) {h h' : List Event} {l l' : Link} (r : Run h l) 
 pub onward_is : (n : Names) {h : List Event} {l : Link} {r : Run h l} (e : names_of r ≡ n) {h' : List Event} {l' : Link} {r' : Run h' l'} → Onward h l r h' l' r' → OnwardIs n r e r'
 unfolding names_of run_at
 onward_is n e same = record { names = e; onward = law.same }
-onward_is n e (onward {h' = h} {l' = l} {r' = r'} o s) =
+onward_is n e (onward {h' = h} {l' = l} {x = at y x} {r' = r'} o s) =
     let I = onward_is n e o in
     record { names = I.names; onward = law.onward I.onward (step_is n h s (run_at n r' I.names).is).step }
 

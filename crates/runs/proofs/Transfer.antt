@@ -43,7 +43,7 @@ end_waiting : (x : Side) {told : ℕ → Status} {m : Model} {e : law.End} → E
 end_waiting x (is_end A S R) = waits_same R.waiting
 
 -- the end at a side
-side_is : (x : Side) {n : Names} {h : List Event} {l : Link} {k : law.Link} → LinkIs n h l k → EndIs (ways_of x) (told_of (calls x h)) (end_of x l) (truth.end_of x k)
+pub side_is : (x : Side) {n : Names} {h : List Event} {l : Link} {k : law.Link} → LinkIs n h l k → EndIs (ways_of x) (told_of (calls x h)) (end_of x l) (truth.end_of x k)
 side_is air (link_is A G D U B C) = A
 side_is ground (link_is A G D U B C) = G
 
