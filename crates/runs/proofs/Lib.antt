@@ -25,3 +25,4 @@ pub mod Mapped
 pub mod Deeds
 pub mod Transfer
 pub mod Clean
+pub mod Progressing
