@@ -26,3 +26,4 @@ pub mod Deeds
 pub mod Transfer
 pub mod Clean
 pub mod Progressing
+pub mod Waitings
