@@ -27,3 +27,4 @@ pub mod Transfer
 pub mod Clean
 pub mod Progressing
 pub mod Waitings
+pub mod Sounds
