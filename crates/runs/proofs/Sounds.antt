@@ -11,7 +11,9 @@ use Rattle.std.proofs.lemmas.List.{get_or_append_left, get_or-append_right, get_
 use Rattle.directions.specs.Rings.{RingRule, member}
 use Rattle.directions.specs.TextRules.{is_letter, is_letter_or_digit}
 use Rattle.blocks.specs.Fields.{Head, Fields, response, message, head_of}
-use Rattle.blocks.specs.Legal.{Way, at, address_allows, acknowledges, is_label, is_text, label_allows, text_allows, text_length, head_allows, Sound}
+use Rattle.blocks.specs.Legal.{Way, at, address_allows, acknowledges, is_label, is_text, label_allows, text_allows, text_length, head_allows, TextKept, Sound}
+use Rattle.blocks.specs.Reading.{pick}
+use Rattle.writing.specs.Writing.{Refusal, HeadBad, HeadGood, TextBad}
 use Rattle.calls.specs.declared.types.Settings.{Settings}
 use Rattle.calls.specs.Setting.{address_good, flight_good}
 use Rattle.stores.specs.Held.{Stored}
@@ -243,3 +245,44 @@ module _ (w : Way) (L : WayLaws w) (some_room : 0 < w.text.room) (s : Settings) 
           let d = length-drop (a * w.text.room) text in
           let l = length-append opening body in
           ap (λ (c : Bool). c || eqb (a + 1) (block_count w.text.room (length text))) (lt-ltb 0 (length whole) (omega (arith, q, m, t, d, l, some_room)))
+
+module _ (w : Ways) (L : WayLaws w.out) (some_room : 0 < w.out.text.room) (m : Model) (A : Accepted m.settings) where
+  -- the block of a good cell
+  pub block_sound : (b : Stored Cell) (a identifier i : ℕ) {k : Option ℕ} → GoodCell w.out.text.room b → a < block_count w.out.text.room (length b.text) → Is w.out.own identifier i →
+      Same w.out.other (owed_by m.inbox) k → Sound w.out (block_fields w m b a identifier)
+  block_sound b a identifier i G fits n q = record {
+    sized = (A.seven, G.two);
+    head = head_sound w.out (block_fields w m b a identifier) (address_at m.settings A) (acknowledges_same w.out.other q) (is_member w.out.own identifier i n) G.label;
+    text = (length_sound w.out L some_room m.settings A b.«record».number b.text a G.text (L.counted.most (length b.text) G.long) fits,
+        text_sound w.out L some_room m.settings A b.«record».number b.text a G.text (L.counted.most (length b.text) G.long) fits);
+  }
+
+  -- a general response
+  pub response_sound : (i : ℕ) {k : Option ℕ} → Is w.out.own (last_identifier w.out.own m.outbox) i → Same w.out.other (owed_by m.inbox) k → Sound w.out (response_fields w m)
+  response_sound i n q = record {
+    sized = A.seven;
+    head = head_sound w.out (response_fields w m) (address_at m.settings A) (acknowledges_same w.out.other q) (is_member w.out.own (last_identifier w.out.own m.outbox) i n) (λ j h. refl);
+    text = tt;
+  }
+
+-- sound fields are not refused
+pub sound_taken : (w : Way) (f : Fields) (buffer : List ℕ) → 238 ≤ length buffer → Sound w f → (n : ℕ) (p : std.Option ℕ) → Refusal w f buffer n p → ⊥
+sound_taken w f buffer room S n None h = go (eqb n 1) h
+  where
+    go : (b : Bool) → pick b (length buffer < 238) ⊥ → ⊥
+    go true x = omega (arith, x, room)
+    go false x = x
+sound_taken w f buffer room S n (Some p) h = go (eqb n 7) (eqb n 8) h
+  where
+    head_bad : HeadBad w f p → ⊥
+    head_bad b = let u = S.head p b.from b.until in clash (sym b.bad ∙ u)
+
+    text_bad : (g : Fields) → TextKept w g → TextBad w g p → ⊥
+    text_bad (response x) k b = b
+    text_bad (message x l e t) k (inl b) = clash (sym b.0 ∙ k.0)
+    text_bad (message x l e t) k (inr (y, (i, u, v, z, b))) = clash (sym b ∙ k.1 i v)
+
+    go : (b d : Bool) → pick b ((238 ≤ length buffer) × HeadBad w f p) (pick d ((238 ≤ length buffer) × HeadGood w f 13 × TextBad w f p) ⊥) → ⊥
+    go true d x = head_bad x.1
+    go false true x = text_bad f S.text x.2
+    go false false x = x
