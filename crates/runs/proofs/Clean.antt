@@ -133,7 +133,7 @@ complete_so seventeenth e = let z : ◌≡◌ {A = ℕ} 0 1 = ap is_whole e in a
 complete_so crowded e = let z : ◌≡◌ {A = ℕ} 0 1 = ap is_whole e in absurd (omega (arith, z))
 
 complete_answer : {r : Result Heard LinkFault} {a : law.Answer} → AnswerIs r a → r ≡ Ok heard.Complete → a ≡ law.took complete
-complete_answer answer_passed e = let z : ◌≡◌ {A = ℕ} 0 1 = ap is_whole e in absurd (omega (arith, z))
+complete_answer (answer_passed u) e = let z : ◌≡◌ {A = ℕ} 0 1 = ap is_whole e in absurd (omega (arith, z))
 complete_answer answer_response e = let z : ◌≡◌ {A = ℕ} 0 1 = ap is_whole e in absurd (omega (arith, z))
 complete_answer (answer_took {t = t}) e = ap law.took (complete_so t e)
 
@@ -157,7 +157,7 @@ took_complete seventeenth e = let z : ◌≡◌ {A = ℕ} 0 1 = ap is_complete e
 took_complete crowded e = let z : ◌≡◌ {A = ℕ} 0 1 = ap is_complete e in absurd (omega (arith, z))
 
 answer_complete : {r : Result Heard LinkFault} {a : law.Answer} → AnswerIs r a → a ≡ law.took complete → r ≡ Ok heard.Complete
-answer_complete answer_passed e = let z : ◌≡◌ {A = ℕ} 0 1 = ap is_complete e in absurd (omega (arith, z))
+answer_complete (answer_passed u) e = let z : ◌≡◌ {A = ℕ} 0 1 = ap is_complete e in absurd (omega (arith, z))
 answer_complete answer_response e = let z : ◌≡◌ {A = ℕ} 0 1 = ap is_complete e in absurd (omega (arith, z))
 answer_complete (answer_took {t = t}) e = took_complete t e
 

@@ -130,7 +130,7 @@ module _ (w : Ways) (L : WayLaws w.out) (K : WayLaws w.inn) (T : RoundTrip w.inn
         end_after = e;
         hears = law.passes law.unreadable;
         is = subst (λ (v : Model). EndIs w told v e) (sym z.1) E;
-        answer_is = subst (λ (v : Result Heard LinkFault). AnswerIs v law.passed) (sym z.0) answer_passed;
+        answer_is = subst (λ (v : Result Heard LinkFault). AnswerIs v law.passed) (sym z.0) (answer_passed (spoiled_refused w.inn s x (Err f) q));
         place_is = sym (acknowledged_none m m' (ap (λ (v : Model). v.outbox.cells) z.1));
         settings = ap (λ (v : Model). v.settings) z.1;
       }

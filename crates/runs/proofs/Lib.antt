@@ -28,3 +28,4 @@ pub mod Clean
 pub mod Progressing
 pub mod Waitings
 pub mod Sounds
+pub mod Refusing

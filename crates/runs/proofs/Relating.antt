@@ -23,7 +23,7 @@ use Rattle.law.specs.Links as law
 use Rattle.law.specs.Links.{Packet, Side}
 use Rattle.runs.specs.Links.{Strings, unput, put, Deed, submit, withdraw, tick, hear, collect, outcome, Accepted, ways_of}
 use Rattle.runs.specs.History.{status_of, said_by}
-use Rattle.runs.specs.Strings.{cuts, joined_up}
+use Rattle.runs.specs.Strings.{cuts, joined_up, Unreadable}
 use Rattle.runs.proofs.Cuts.{Counted}
 use Rattle.runs.proofs.Senders.{SenderIs}
 use Rattle.runs.proofs.Receivers.{ReceiverIs}
@@ -55,7 +55,7 @@ pub data EndIs (w : Ways) (told : ℕ → Status) (m : Model) : law.End → Type
 
 -- what a hear answers, and what the law's does
 pub data AnswerIs : Result Heard LinkFault → law.Answer → Type 0 where
-  answer_passed : {f : BlockFault} → AnswerIs (Err (fault.Block f)) law.passed
+  answer_passed : {f : BlockFault} → Unreadable (Err f) → AnswerIs (Err (fault.Block f)) law.passed
   answer_response : AnswerIs (Ok heard.Response) law.response
   answer_took : {t : Took} → AnswerIs (answer_of t) (law.took t)
 

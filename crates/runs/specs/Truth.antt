@@ -1,6 +1,6 @@
 -- What holds of every run: truth of outcomes, order of messages.
 -- Assumes nothing.
-use Rattle.std.specs.Prelude.{◌≡◌, ℕ, ◌<◌, ◌≤◌, ◌⊎◌, ◌↔◌, List, [], ◌∷◌, map, length, Some, Ok, Err}
+use Rattle.std.specs.Prelude.{◌≡◌, ℕ, ◌<◌, ◌≤◌, ◌⊎◌, ◌↔◌, List, [], ◌∷◌, map, length, Some, Ok, Err, Option}
 use Rattle.calls.specs.declared.types.Outcome.{Outcome}
 use Rattle.calls.specs.declared.types.Label.{Label}
 use Rattle.calls.specs.declared.fault.LinkFault.{LinkFault}
@@ -8,7 +8,7 @@ use Rattle.law.specs.Senders.{Status, unsettled, delivered, not_delivered, in_do
 use Rattle.law.specs.Links.{Side}
 use Rattle.law.specs.Truth.{other, Among, Rises, Extends}
 use Rattle.calls.specs.Faults.{number_of}
-use Rattle.runs.specs.Links.{Link, Deed, collect, outcome, Event, at, Step, Run, Onward}
+use Rattle.runs.specs.Links.{Strings, Link, Place, Put, Deed, tick, hear, collect, outcome, Event, at, Step, Run, Onward}
 use Rattle.runs.specs.History.{Message, calls, submissions, completed, numbered, given_out, status_of, called, end_of, waits, Made, Withdrawn, LastAcknowledged, WithdrawnLate}
 
 -- each message is the submitted one whose number it bears
@@ -53,6 +53,14 @@ pub record Truthful (x : Side) : Type 0 where
 -- truth and order, both ways
 abbrev pub TruthAndOrder : Type 0
 TruthAndOrder = (x : Side) → Truthful x
+
+-- the refusals between two ends: a tick's is that its time is not taken, by 14; a hear's is that nothing waits, by 2, that a string came spoiled, by 3, 4 or 5, or
+-- that no cell is free for a message that would complete, by 12
+pub record RefusalsBetween : Type 0 where
+  pub ticks : (x : Side) (h : List Event) (l l' : Link) (time draw : ℕ) (f : LinkFault) (p : Put) (b : Option Place) → Run h l →
+      Step l (at x (tick time draw (Err f) p b)) l' → number_of f ≡ 14
+  pub hears : (x : Side) (h : List Event) (l l' : Link) (f : LinkFault) (dropped : Strings) (s : Option (List ℕ)) (b : Option Place) → Run h l →
+      Step l (at x (hear (Err f) dropped s b)) l' → Among (number_of f) (2 ∷ 3 ∷ 4 ∷ 5 ∷ 12 ∷ [])
 
 -- collects into buffers long enough until one answers 2, and the messages that they hand out
 pub data HandsOut (y : Side) : Link → List Message → Link → Type 0 where
