@@ -1,5 +1,5 @@
 -- Clean rounds of two real ends are clean rounds of the law. Assumes nothing.
-use Rattle.std.proofs.Common.{◌≡◌, ℕ, zero, suc, ◌+◌, ◌≤◌, Bool, true, false, cond, leb, List, [], ◌∷◌, length, Some, None, Ok, Err, Result, sym, refl, ap, ◌∙◌, subst, arith, le-leb}
+use Rattle.std.proofs.Common.{◌≡◌, ℕ, leb, List, [], ◌∷◌, Some, None, Ok, Err, Result, sym, refl, ap, ◌∙◌, subst, arith, le-leb}
 use mathlib.Core.Option.{Option, none, some}
 use Rattle.std.specs.declared.option.Option as std
 use Rattle.calls.specs.declared.fault.LinkFault.{LinkFault}
@@ -8,7 +8,7 @@ use Rattle.calls.specs.declared.types.Ticked.{Ticked}
 use Rattle.calls.specs.declared.types.Heard.{Heard}
 use Rattle.calls.specs.declared.types.Heard.TheVariants as heard
 use Rattle.calls.specs.Faults.{number_of}
-use Rattle.ends.specs.Model.{Ways, Model}
+use Rattle.ends.specs.Model.{Model}
 use Rattle.ends.specs.Sending.{current_out}
 use Rattle.law.specs.Senders.{Status, Phase, idle, ready, out, sender}
 use Rattle.law.specs.Receivers.{Took, duplicate, part, complete, stray, seventeenth, crowded}
@@ -17,13 +17,12 @@ use Rattle.law.specs.Links.{Side, air, ground}
 use Rattle.law.specs.Truth as truth
 use Rattle.law.specs.Truth.{other}
 use Rattle.law.specs.Rounds as rounds
-use Rattle.runs.specs.Links.{Strings, Link, Place, Put, unput, put, Deed, tick, hear, collect, Event, at, Step, ways_of}
-use Rattle.runs.specs.History.{end_of, calls, told_of}
+use Rattle.runs.specs.Links.{Link, Place, unput, put, Deed, tick, hear, collect, Event, at, Step, ways_of}
+use Rattle.runs.specs.History.{end_of}
 use Rattle.runs.specs.Rounds.{CleanTick, puts_one, puts_none, HandsOutOne, hands_out, FindsNone, finds_none, Silent, silent, Collecting, collected_all, collects, Draining, drained, drains, drains_last, spare, spare_after, tally, Listening, listened, listens, OnTime, Round, round, Rounds, no_round, one_more}
-use Rattle.runs.proofs.Senders.{SenderIs}
 use Rattle.runs.proofs.Acks.{as_place, is_out, out_same}
 use Rattle.runs.proofs.Takes.{answer_of}
-use Rattle.runs.proofs.Relating.{EndIs, is_end, AnswerIs, answer_passed, answer_response, answer_took, DeedIs, tick_block, tick_response, tick_nothing, tick_refused, hear_one, hear_none, collect_one, collect_none, collect_refused}
+use Rattle.runs.proofs.Relating.{EndIs, is_end, AnswerIs, answer_passed, answer_response, answer_took, DeedIs, tick_block, tick_response, tick_nothing, hear_one, hear_none, collect_one, collect_none, collect_refused}
 use Rattle.runs.proofs.Mapped.{Names, down_of, up_of, LinkIs, StepIs, step_is}
 use Rattle.runs.proofs.Transfer.{side_is}
 

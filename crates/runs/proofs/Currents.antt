@@ -1,5 +1,5 @@
 -- After an acknowledgment that counts, the current block is another one. Assumes nothing.
-use Rattle.std.proofs.Common.{◌≡◌, ℕ, zero, suc, ◌+◌, ◌<◌, ◌≤◌, min, Bool, true, false, cond, ◌&&◌, eqb, List, [], ◌∷◌, length, Some, None, sym, refl, ap, ◌∙◌, subst, arith, eq-eqb, ne_eqb}
+use Rattle.std.proofs.Common.{◌≡◌, ℕ, suc, ◌+◌, ◌<◌, min, Bool, true, false, cond, eqb, List, [], ◌∷◌, length, Some, None, refl, ap, ◌∙◌, arith, eq-eqb, ne_eqb}
 use native.Mathlib.Nat.{min-eq_left}
 use borrow.Author.Tests.{clash}
 use Rattle.stores.specs.Held.{Stored, stored}
@@ -8,7 +8,7 @@ use Rattle.ends.specs.declared.types.Stage.{Stage}
 use Rattle.ends.specs.declared.types.Stage.TheVariants.{Unsettled, Settled}
 use Rattle.calls.specs.declared.types.Outcome.TheVariants.{Delivered}
 use Rattle.ends.specs.Model.{Model}
-use Rattle.ends.specs.Sending.{block_count, staged, advanced, is_out, acknowledged_cells, current_out}
+use Rattle.ends.specs.Sending.{block_count, staged, acknowledged_cells, current_out}
 use Rattle.law.specs.Senders.{Message}
 use Rattle.runs.specs.Links.{Place, block_at, current_of, current, same_block, acknowledged}
 use Rattle.runs.proofs.Cuts.{Counted}

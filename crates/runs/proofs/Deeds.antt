@@ -1,5 +1,5 @@
 -- What is read off the calls of a real end is what is read off the law's. Assumes nothing.
-use Rattle.std.proofs.Common.{◌≡◌, ℕ, zero, suc, Bool, List, [], ◌∷◌, ◌++◌, map, length, take, Some, None, Ok, sym, refl, ap, ◌∙◌, subst, append-nil, arith}
+use Rattle.std.proofs.Common.{◌≡◌, ℕ, zero, suc, Bool, List, [], ◌∷◌, ◌++◌, map, length, Some, None, Ok, sym, refl, ap, ◌∙◌, subst, append-nil}
 use mathlib.Core.Option.{Option, none, some}
 use Rattle.std.proofs.Math.Option.{none-ne-some}
 use mathlib.Core.Option.{some-injective}
@@ -9,15 +9,14 @@ use Rattle.std.specs.List.{slice_get}
 use Rattle.std.specs.declared.option.Option as std
 use Rattle.calls.specs.declared.types.Outcome.{Outcome}
 use Rattle.ends.specs.Model.{Ways, Model}
-use Rattle.ends.specs.Sending.{block_count}
 use Rattle.law.specs.Senders as senders
 use Rattle.law.specs.Links as law
 use Rattle.law.specs.Links.{Side, air, ground}
 use Rattle.law.specs.Truth as truth
 use Rattle.runs.specs.Links.{Deed, withdraw, hear, outcome, Event, ways_of}
-use Rattle.runs.specs.History.{Message, message, calls, submissions, handed_out, numbered, status_of, Made, now_made, made, GoneOut, now_out, out_before, Acknowledged, now_acknowledged, acknowledged_before, room, size, LastBlock, LastOut, LastAcknowledged, WithdrawnLate, now_late, late_before}
+use Rattle.runs.specs.History.{Message, message, calls, submissions, handed_out, numbered, status_of, Made, now_made, made, GoneOut, now_out, out_before, Acknowledged, now_acknowledged, acknowledged_before, room, size, LastOut, LastAcknowledged, WithdrawnLate, now_late, late_before}
 use Rattle.runs.specs.Strings.{cuts, joined_up}
-use Rattle.runs.proofs.Cuts.{Counted, counted_at, cuts_length, cuts_whole}
+use Rattle.runs.proofs.Cuts.{counted_at, cuts_length}
 use Rattle.runs.proofs.Acks.{as_place}
 use Rattle.runs.proofs.Relating.{DeedIs, submit_taken, submit_refused, withdraw_taken, withdraw_refused, tick_block, tick_response, tick_nothing, tick_refused, hear_one, hear_none, collect_one, collect_none, collect_refused, outcome_told, outcome_refused}
 use Rattle.runs.proofs.Mapped.{HistoryIs, no_calls, one_call}

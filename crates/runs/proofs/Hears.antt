@@ -1,5 +1,5 @@
 -- A hear at an end, as a move of the law. Assumes nothing.
-use Rattle.std.proofs.Common.{◌≡◌, ℕ, zero, suc, ◌+◌, ◌-◌, ◌<◌, ◌≤◌, Bool, true, false, cond, ◌&&◌, eqb, leb, List, [], ◌∷◌, ◌++◌, length, drop, Some, None, Ok, Err, Result, sym, refl, ap, ◌∙◌, subst, inl, inr, arith, ltb, ◌||◌, leb-true}
+use Rattle.std.proofs.Common.{◌≡◌, ℕ, suc, ◌+◌, ◌≤◌, Bool, true, false, cond, ◌&&◌, leb, List, [], ◌∷◌, ◌++◌, length, drop, Some, None, Ok, Err, Result, sym, refl, ap, ◌∙◌, subst, inl, inr, arith, ltb, ◌||◌, leb-true}
 use mathlib.Core.Option.{Option, none, some}
 use Rattle.std.specs.declared.option.Option as std
 use Rattle.std.proofs.lemmas.List.{length-drop}
@@ -7,37 +7,33 @@ use borrow.Author.Tests.{clash}
 use Rattle.directions.specs.TextRules.{OpeningLaws}
 use Rattle.blocks.specs.declared.block.Block.{Block}
 use Rattle.blocks.specs.declared.fault.BlockFault.{BlockFault}
-use Rattle.blocks.specs.Fields.{Head, Fields, response, message, written}
+use Rattle.blocks.specs.Fields.{Head, response, message}
 use Rattle.blocks.specs.Legal.{Way, Sound}
 use Rattle.blocks.specs.Reading.{Reads}
 use Rattle.writing.specs.RoundTrip.{RoundTrip}
 use Rattle.paths.specs.Meaning.{Spoiled}
 use Rattle.calls.specs.declared.fault.LinkFault.{LinkFault}
-use Rattle.calls.specs.declared.fault.LinkFault.TheVariants as fault
 use Rattle.calls.specs.declared.types.Heard.{Heard}
-use Rattle.calls.specs.declared.types.Heard.TheVariants as heard
-use Rattle.calls.specs.Faults.{number_of, place_of}
-use Rattle.ends.specs.declared.types.Cell.{Cell}
-use Rattle.ends.specs.Model.{Ways, Outbox, Inbox, Model}
+use Rattle.calls.specs.Faults.{number_of}
+use Rattle.ends.specs.Model.{Ways, Inbox, Model}
 use Rattle.ends.specs.Sending.{names, current_out, counted, with_outbox}
 use Rattle.ends.specs.Hearing as hearing
-use Rattle.ends.specs.Calls.{Hears, StringHeard, ReadHeard, FieldsHeard, with_inbox}
-use Rattle.law.specs.Directions.{Direction}
+use Rattle.ends.specs.Calls.{Hears, StringHeard, ReadHeard, FieldsHeard}
 use Rattle.law.specs.Real as real
 use Rattle.law.specs.Senders.{Message, Status, Phase, sender, Counts}
 use Rattle.law.specs.Senders as senders
-use Rattle.law.specs.Receivers.{Part, receiver, owes}
+use Rattle.law.specs.Receivers.{receiver, owes}
 use Rattle.law.specs.Links as law
 use Rattle.law.specs.Links.{Packet, packet, spoiled}
-use Rattle.runs.specs.Links.{Strings, Place, Takes, Leaves, same_block, current, current_of, acknowledged, hear, Accepted}
+use Rattle.runs.specs.Links.{Strings, Place, Takes, current, acknowledged, hear, Accepted}
 use Rattle.runs.proofs.Rings.{Is, Same}
 use Rattle.runs.proofs.Senders.{SenderIs}
 use Rattle.runs.proofs.Receivers.{ReceiverIs}
-use Rattle.runs.proofs.Acks.{AckIs, ack_is, as_place, place_if, box_if}
+use Rattle.runs.proofs.Acks.{AckIs, ack_is, as_place, box_if}
 use Rattle.runs.proofs.Currents.{acknowledged_none, current_moves}
-use Rattle.runs.proofs.Spoils.{spoiled_refused, spoiled_unchanged}
-use Rattle.runs.proofs.Says.{Says, says_nothing, says_response, says_block, AllSay, none_waits, one_waits, Parted, parted, fields_heard}
-use Rattle.runs.proofs.Takes.{answer_of, TakenAs, block_heard_is}
+use Rattle.runs.proofs.Spoils.{spoiled_refused}
+use Rattle.runs.proofs.Says.{Says, says_nothing, says_response, says_block, AllSay, none_waits, one_waits, parted, fields_heard}
+use Rattle.runs.proofs.Takes.{block_heard_is}
 use Rattle.runs.proofs.Relating.{WayLaws, EndIs, is_end, AnswerIs, answer_passed, answer_response, answer_took, DeedIs, Served, hear_one, hear_none}
 use Rattle.runs.proofs.Local.{outward, inward}
 
@@ -102,7 +98,7 @@ module _ (w : Ways) (L : WayLaws w.out) (told : ℕ → Status) (m : Model) wher
 pub short : (w : Way) → OpeningLaws w.text → (h : Head) (l t : List ℕ) (e : Bool) → Sound w (message h l e t) → length (drop w.text.opening t) ≤ 220
 short w O h l t e u =
     let n = leb-true (length t) (w.text.opening + w.text.room) (both_left (leb (length t) (w.text.opening + w.text.room)) (ltb 0 (length t) || e)
-        (both_right (leb w.text.opening (length t)) (leb (length t) (w.text.opening + w.text.room) && (ltb 0 (length t) || e)) u.text.0)) in
+    (both_right (leb w.text.opening (length t)) (leb (length t) (w.text.opening + w.text.room) && (ltb 0 (length t) || e)) u.text.0)) in
     let f = O.full in
     let d = length-drop w.text.opening t in
     omega (arith, n, f, d)

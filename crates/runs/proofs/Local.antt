@@ -1,9 +1,6 @@
 -- The calls at an end that touch no path, as moves of the law: submit, withdraw, collect, outcome. Assumes nothing.
-use Rattle.std.proofs.Common.{◌≡◌, ℕ, zero, suc, ◌+◌, ◌<◌, ◌≤◌, Bool, true, false, cond, eqb, List, [], ◌∷◌, ◌++◌, length, take, drop, Some, None, Ok, Err, Result, sym, refl, ap, ◌∙◌, subst, arith, eq-eqb, eqb-true}
-use mathlib.Core.Option.{Option}
-use borrow.Author.Tests.{eqb-false}
+use Rattle.std.proofs.Common.{◌≡◌, ℕ, ◌<◌, ◌≤◌, Bool, true, false, cond, eqb, List, [], ◌∷◌, ◌++◌, length, take, drop, Some, None, Ok, Err, Result, sym, refl, ap, ◌∙◌, subst, arith, eq-eqb, eqb-true}
 use Rattle.std.proofs.Math.Seq.{take-append_seam}
-use Rattle.std.specs.List.{slice_get}
 use Rattle.std.specs.declared.option.Option as std
 use Rattle.blocks.specs.Reading.{pick}
 use Rattle.stores.specs.Held.{Stored}
@@ -23,15 +20,15 @@ use Rattle.law.specs.Senders as senders
 use Rattle.law.specs.Receivers as receivers
 use Rattle.law.specs.Links as law
 use Rattle.law.specs.Links.{Packet}
-use Rattle.runs.specs.Links.{Strings, Deed, submit, withdraw, collect, outcome, Accepted}
+use Rattle.runs.specs.Links.{Strings, Deed, submit, withdraw, collect, outcome}
 use Rattle.runs.specs.History.{said_by, status_of, status_at, called_in}
-use Rattle.runs.specs.Strings.{cuts, joined_up}
+use Rattle.runs.specs.Strings.{cuts}
 use Rattle.runs.proofs.Cuts.{cuts_length}
-use Rattle.runs.proofs.Senders.{SenderIs, fresh_cell, submit_is, tell_is, settled_not}
-use Rattle.runs.proofs.Receivers.{ReceiverIs, WaitingAre, none_wait, one_waits}
+use Rattle.runs.proofs.Senders.{SenderIs, submit_is, tell_is, settled_not}
+use Rattle.runs.proofs.Receivers.{WaitingAre, none_wait, one_waits}
 use Rattle.runs.proofs.Firsts.{cell_of}
-use Rattle.runs.proofs.Places.{Found, found}
-use Rattle.runs.proofs.Withdraws.{WithdrawIs, withdraw_is, stands_get}
+use Rattle.runs.proofs.Places.{found}
+use Rattle.runs.proofs.Withdraws.{withdraw_is, stands_get}
 use Rattle.runs.proofs.Says.{AllSay}
 use Rattle.runs.proofs.Relating.{WayLaws, EndIs, is_end, DeedIs, Served, submit_taken, submit_refused, withdraw_taken, withdraw_refused, collect_one, collect_none, collect_refused, outcome_told, outcome_refused}
 

@@ -6,17 +6,16 @@ use Rattle.calls.specs.declared.types.Settings.{Settings}
 use Rattle.ends.specs.Model.{Ways, Model, new_model}
 use Rattle.law.specs.Directions.{Direction}
 use Rattle.law.specs.Real.{direction_of}
-use Rattle.law.specs.Senders.{Status, unsettled}
+use Rattle.law.specs.Senders.{unsettled}
 use Rattle.law.specs.Links as law
 use Rattle.law.specs.Links.{Side, air, ground}
-use Rattle.runs.specs.Links.{Strings, Link, link, Deed, down_way, up_way, ways_of, Serves, Event, at, Step, at_air, at_ground, Accepted, Run, begin, ◌then◌, Onward, same, onward}
+use Rattle.runs.specs.Links.{Strings, Link, link, Deed, down_way, up_way, ways_of, Event, at, Step, at_air, at_ground, Accepted, Run, begin, ◌then◌, Onward, same, onward}
 use Rattle.runs.specs.History.{end_of, calls, told_of}
 use Rattle.runs.proofs.Rings.{no_one}
 use Rattle.runs.proofs.Senders.{new_sender_is}
 use Rattle.runs.proofs.Receivers.{none_wait, shut}
 use Rattle.runs.proofs.Says.{AllSay, none_waits}
-use Rattle.runs.proofs.Relating.{EndIs, is_end, DeedIs, Served}
-use Rattle.runs.proofs.Local.{outward, inward}
+use Rattle.runs.proofs.Relating.{EndIs, is_end, DeedIs}
 use Rattle.runs.proofs.Serving.{serves_is, paired}
 
 -- the settings of both ends: originators and registration

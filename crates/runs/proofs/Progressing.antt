@@ -1,9 +1,8 @@
 -- Clean rounds of two real ends make exact progress. Assumes nothing.
-use Rattle.std.proofs.Common.{◌≡◌, ℕ, zero, suc, ◌+◌, min, Bool, cond, List, [], ◌∷◌, ◌++◌, map, length, Some, None, sym, refl, ap, ◌∙◌, subst, arith}
+use Rattle.std.proofs.Common.{◌≡◌, ℕ, zero, suc, min, Bool, cond, List, [], ◌∷◌, map, length, refl, ap, ◌∙◌, arith}
 use mathlib.Core.Option.{Option, none, some}
 use Rattle.std.proofs.lemmas.List.{length-map}
 use Rattle.std.specs.List.{slice_get}
-use Rattle.std.specs.declared.option.Option as std
 use Rattle.ends.specs.Model.{Ways, Model}
 use Rattle.law.specs.Senders as senders
 use Rattle.law.specs.Senders.{Status}
@@ -15,16 +14,16 @@ use Rattle.law.specs.Rounds.{total, left_at}
 use Rattle.law.proofs.RealDirections.{real_directions}
 use Rattle.law.proofs.ProgressRounds.{progress}
 use Rattle.law.proofs.Truths.{refusals_never}
-use Rattle.runs.specs.Links.{Link, Place, Deed, Event, Run, ways_of}
-use Rattle.runs.specs.History.{Message, calls, submissions, numbered, called, room, size}
-use Rattle.runs.specs.Rounds.{acknowledged_by, is_block, missing, size_at, blocks_left, unacknowledged, Rounds, Progress}
+use Rattle.runs.specs.Links.{Link, Deed, Event}
+use Rattle.runs.specs.History.{Message, calls, submissions, numbered, called, room}
+use Rattle.runs.specs.Rounds.{acknowledged_by, is_block, missing, size_at, blocks_left, unacknowledged, Progress}
 use Rattle.runs.proofs.Cuts.{counted_at, cuts_length}
 use Rattle.runs.proofs.Acks.{as_place}
 use Rattle.runs.proofs.Relating.{DeedIs, submit_taken, submit_refused, withdraw_taken, withdraw_refused, tick_block, tick_response, tick_nothing, tick_refused, hear_one, hear_none, collect_one, collect_none, collect_refused, outcome_told, outcome_refused}
 use Rattle.runs.proofs.Mapped.{Names, down_of, up_of, RunIs, names_of, run_is}
 use Rattle.runs.proofs.Deeds.{CallsAre, no_deeds, one_deed, calls_are, cut, submissions_same}
 use Rattle.runs.proofs.Transfer.{called_same}
-use Rattle.runs.proofs.Clean.{Reached, Goes, clean_rounds}
+use Rattle.runs.proofs.Clean.{clean_rounds}
 
 -- sums of equal numbers
 total_same : (f g : ℕ → ℕ) → ((j : ℕ) → f j ≡ g j) → (n : ℕ) → total f n ≡ total g n

@@ -1,13 +1,12 @@
 -- Which refusals come between two ends of a link. Assumes nothing.
-use Rattle.std.proofs.Common.{◌≡◌, ℕ, zero, suc, ◌+◌, ◌<◌, ◌≤◌, Bool, true, false, cond, eqb, leb, ◌⊎◌, List, [], ◌∷◌, length, replicate, Some, None, Ok, Err, Result, sym, refl, ap, ◌∙◌, subst, inl, inr, zero-add, arith, eqb-true}
-use mathlib.Core.Option.{Option, some}
+use Rattle.std.proofs.Common.{◌≡◌, ℕ, ◌+◌, ◌<◌, ◌≤◌, Bool, true, false, cond, eqb, leb, List, [], ◌∷◌, length, replicate, Some, Ok, Err, Result, sym, refl, ap, ◌∙◌, subst, inl, inr, zero-add, arith, eqb-true}
+use mathlib.Core.Option.{Option}
 use Rattle.std.proofs.lemmas.List.{length-replicate}
 use Rattle.std.specs.List.{slice_get}
 use Rattle.std.specs.declared.option.Option as std
 use Rattle.blocks.specs.declared.fault.BlockFault.{BlockFault}
 use Rattle.blocks.specs.Faults as block
 use Rattle.blocks.specs.Reading.{pick}
-use Rattle.blocks.specs.Legal.{Sound}
 use Rattle.writing.specs.Writing as writing
 use Rattle.stores.specs.Held.{Stored}
 use Rattle.calls.specs.declared.fault.LinkFault.{LinkFault}
@@ -18,10 +17,10 @@ use Rattle.ends.specs.declared.types.Plan.{Plan}
 use Rattle.ends.specs.declared.types.Plan.TheVariants as plan
 use Rattle.ends.specs.declared.types.Stage.TheVariants.{Unsettled}
 use Rattle.ends.specs.Model.{Ways, Model}
-use Rattle.ends.specs.Sending.{block_count, block_fields, response_fields, plan_of, plan_of_cell, otherwise, fresh_identifier, last_identifier}
-use Rattle.ends.specs.Calls.{Ticks, TickRefused, Unsound, on_time}
+use Rattle.ends.specs.Sending.{block_fields, response_fields, plan_of, plan_of_cell, otherwise, fresh_identifier, last_identifier}
+use Rattle.ends.specs.Calls.{TickRefused, Unsound, on_time}
 use Rattle.law.specs.Senders.{Message, Status, Phase}
-use Rattle.law.specs.Receivers.{Part, Took, duplicate, part, complete, stray, seventeenth, crowded}
+use Rattle.law.specs.Receivers.{Part, duplicate, part, complete, stray, seventeenth, crowded}
 use Rattle.law.specs.Directions.{fresh}
 use Rattle.law.specs.Links as law
 use Rattle.law.specs.Links.{Side, air, ground}
@@ -29,23 +28,21 @@ use Rattle.law.specs.Truth as truth
 use Rattle.law.specs.Truth.{Among, here, there}
 use Rattle.law.proofs.RealDirections.{real_directions}
 use Rattle.law.proofs.Truths.{refusals_never}
-use Rattle.runs.specs.Links.{Strings, Link, link, Place, Put, tick, hear, Event, at, Step, at_air, at_ground, Serves, ticks, ways_of, Run, Accepted}
-use Rattle.runs.specs.History.{end_of, calls, told_of}
+use Rattle.runs.specs.Links.{Strings, Link, Place, Put, tick, hear, at, Step, at_air, at_ground, Serves, ticks, ways_of, Accepted}
+use Rattle.runs.specs.History.{end_of}
 use Rattle.runs.specs.Strings.{Unreadable}
 use Rattle.runs.specs.Truth.{RefusalsBetween}
 use Rattle.runs.proofs.Rings.{Is, fresh_is, last_is}
-use Rattle.runs.proofs.Cells.{GoodCell, Holds}
 use Rattle.runs.proofs.Senders.{SenderIs}
 use Rattle.runs.proofs.Receivers.{ReceiverIs}
-use Rattle.runs.proofs.Firsts.{cell_of, First, All-settled, first_of}
+use Rattle.runs.proofs.Firsts.{cell_of, First, first_of}
 use Rattle.runs.proofs.Sends.{holds_at}
-use Rattle.runs.proofs.Takes.{answer_of}
-use Rattle.runs.proofs.Relating.{WayLaws, EndIs, is_end, AnswerIs, answer_passed, answer_response, answer_took, DeedIs, hear_one, hear_none}
+use Rattle.runs.proofs.Relating.{EndIs, is_end, AnswerIs, answer_passed, answer_response, answer_took, DeedIs, hear_one, hear_none}
 use Rattle.runs.proofs.Local.{same_cell}
 use Rattle.runs.proofs.Ticking.{acknowledged_same}
 use Rattle.runs.proofs.Serving.{Paired, paired}
 use Rattle.runs.proofs.Sounds.{block_sound, response_sound, sound_taken}
-use Rattle.runs.proofs.Mapped.{Names, down_of, up_of, names_of, run_is, StepIs, step_is}
+use Rattle.runs.proofs.Mapped.{Names, down_of, up_of, names_of, run_is, step_is}
 use Rattle.runs.proofs.Transfer.{side_is}
 
 -- a buffer long enough
@@ -73,9 +70,9 @@ module _ (w : Ways) (P : Paired w) (some_room : 0 < w.out.text.room) (m : Model)
 
   pub plan_sound : (time : ℕ) → Unsound w m (plan_of m time) n p → ⊥
   plan_sound time h = elim (first_of w.out.text.room 1 m.outbox.numbered m.outbox.cells S.between S.orderly) [
-      | inl F ↦ with_first F F.gone refl (subst (λ (y : Plan). Unsound w m y n p) (F.plan m time 0) h)
-      | inr N ↦ rest_sound m.inbox.owed (subst (λ (y : Plan). Unsound w m y n p) (N.plan m time 0) h)
-    ]
+    | inl F ↦ with_first F F.gone refl (subst (λ (y : Plan). Unsound w m y n p) (F.plan m time 0) h)
+    | inr N ↦ rest_sound m.inbox.owed (subst (λ (y : Plan). Unsound w m y n p) (N.plan m time 0) h)
+  ]
     where
       by_due : (F : First w.out.text.room 1 m.outbox.cells) (b : Bool) → Unsound w m (cond b (plan.Again (0 + F.place) F.acknowledged) (otherwise m.inbox.owed)) n p → ⊥
       by_due F true u = let I = last_is w.out.own P.out.own.many S.put in first_sound F (0 + F.place) (zero-add F.place) (last_identifier w.out.own m.outbox) I.0 I.1 u.0 u.1 u.2

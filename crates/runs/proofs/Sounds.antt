@@ -1,5 +1,5 @@
 -- What a tick is to send is sound, so no tick is refused for its fields. Assumes nothing.
-use Rattle.std.proofs.Common.{◌≡◌, ℕ, zero, suc, ◌+◌, ◌-◌, ◌*◌, ◌/◌, ◌<◌, ◌≤◌, Bool, true, false, cond, ◌&&◌, ◌||◌, eqb, ltb, leb, List, [], ◌∷◌, ◌++◌, length, take, drop, Some, None, sym, refl, ap, ◌∙◌, subst, inl, inr, arith, eq-eqb, ne_eqb, lt-ltb, le-ltb, le-leb, ltb-true, ltb-false, length-append, suc-mul}
+use Rattle.std.proofs.Common.{◌≡◌, ℕ, zero, suc, ◌+◌, ◌-◌, ◌*◌, ◌/◌, ◌<◌, ◌≤◌, Bool, true, false, cond, ◌&&◌, ◌||◌, eqb, ltb, leb, List, ◌∷◌, ◌++◌, length, drop, Some, None, sym, refl, ap, ◌∙◌, subst, inl, inr, arith, eq-eqb, lt-ltb, le-leb, ltb-true, ltb-false, length-append, suc-mul}
 use mathlib.Core.Option.{Option}
 use borrow.Author.Tests.{clash, eqb-false}
 use Rattle.std.specs.declared.option.Option as std
@@ -10,12 +10,11 @@ use Rattle.std.proofs.lemmas.Bool.{and_from}
 use Rattle.std.proofs.lemmas.List.{get_or_append_left, get_or-append_right, get_or-take, get_or-drop, length-drop, length-take}
 use Rattle.directions.specs.Rings.{RingRule, member}
 use Rattle.directions.specs.TextRules.{is_letter, is_letter_or_digit}
-use Rattle.blocks.specs.Fields.{Head, Fields, response, message, head_of}
-use Rattle.blocks.specs.Legal.{Way, at, address_allows, acknowledges, is_label, is_text, label_allows, text_allows, text_length, head_allows, TextKept, Sound}
+use Rattle.blocks.specs.Fields.{Fields, response, message, head_of}
+use Rattle.blocks.specs.Legal.{Way, at, address_allows, acknowledges, is_text, label_allows, text_allows, text_length, head_allows, TextKept, Sound}
 use Rattle.blocks.specs.Reading.{pick}
 use Rattle.writing.specs.Writing.{Refusal, HeadBad, HeadGood, TextBad}
 use Rattle.calls.specs.declared.types.Settings.{Settings}
-use Rattle.calls.specs.Setting.{address_good, flight_good}
 use Rattle.stores.specs.Held.{Stored}
 use Rattle.ends.specs.declared.types.Cell.{Cell}
 use Rattle.ends.specs.Model.{Ways, Model}
@@ -253,8 +252,10 @@ module _ (w : Ways) (L : WayLaws w.out) (some_room : 0 < w.out.text.room) (m : M
   block_sound b a identifier i G fits n q = record {
     sized = (A.seven, G.two);
     head = head_sound w.out (block_fields w m b a identifier) (address_at m.settings A) (acknowledges_same w.out.other q) (is_member w.out.own identifier i n) G.label;
-    text = (length_sound w.out L some_room m.settings A b.«record».number b.text a G.text (L.counted.most (length b.text) G.long) fits,
-        text_sound w.out L some_room m.settings A b.«record».number b.text a G.text (L.counted.most (length b.text) G.long) fits);
+    text = (
+      length_sound w.out L some_room m.settings A b.«record».number b.text a G.text (L.counted.most (length b.text) G.long) fits,
+      text_sound w.out L some_room m.settings A b.«record».number b.text a G.text (L.counted.most (length b.text) G.long) fits,
+    );
   }
 
   -- a general response

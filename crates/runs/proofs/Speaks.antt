@@ -1,20 +1,19 @@
 -- What the string that a tick puts says to the end that hears it. Assumes nothing.
-use Rattle.std.proofs.Common.{◌≡◌, ℕ, suc, ◌+◌, ◌<◌, ◌≤◌, Bool, eqb, List, [], ◌∷◌, ◌++◌, length, drop, sym, refl, ap, ◌∙◌, subst, zero-add, arith}
+use Rattle.std.proofs.Common.{◌≡◌, ℕ, ◌+◌, ◌<◌, ◌≤◌, Bool, eqb, List, [], ◌++◌, length, drop, sym, refl, ap, ◌∙◌, subst, zero-add, arith}
 use mathlib.Core.Option.{Option, some, none}
-use Rattle.std.specs.declared.option.Option as std
 use Rattle.std.proofs.Math.Seq.{drop-append_seam}
 use Rattle.directions.specs.declared.marks.Mark.{Mark}
 use Rattle.stores.specs.Held.{Stored}
 use Rattle.blocks.specs.Fields.{written}
-use Rattle.blocks.specs.Legal.{Way, Sound}
+use Rattle.blocks.specs.Legal.{Sound}
 use Rattle.ends.specs.declared.types.Cell.{Cell}
 use Rattle.ends.specs.Model.{Ways, Model}
-use Rattle.ends.specs.Sending.{block_count, block_text, block_fields, response_fields, owed_by, last_identifier}
+use Rattle.ends.specs.Sending.{block_count, block_text, block_fields, response_fields, owed_by}
 use Rattle.law.specs.Real.{direction_of, place_of}
-use Rattle.law.specs.Senders.{Text, Block, block, block_of, ended}
-use Rattle.law.specs.Links.{Packet, packet}
+use Rattle.law.specs.Senders.{Block, block, block_of, ended}
+use Rattle.law.specs.Links.{packet}
 use Rattle.runs.specs.Strings.{cuts}
-use Rattle.runs.proofs.Cuts.{Counted, cuts_length}
+use Rattle.runs.proofs.Cuts.{cuts_length}
 use Rattle.runs.proofs.Cells.{course_of}
 use Rattle.runs.proofs.Courses.{text_at, piece_at, Apart, apart, last_block}
 use Rattle.runs.proofs.Rings.{Is, Same}
@@ -45,8 +44,8 @@ module _ (w : Ways) (L : WayLaws w.out) (m : Model) (six : length m.settings.fli
         let o = m.settings.originator in
         let n = b.«record».number in
         ap (λ (x : Mark). block i (place_of x) l
-            (drop w.out.text.opening (w.out.text.opener o m.settings.flight n a ++ block_text w.out.text.room b.text a)) (eqb (a + 1) (block_count w.out.text.room (length b.text))))
-            (L.writes.says o m.settings.flight n a (block_text w.out.text.room b.text a) six (omega (arith, few, fits))) ∙
+        (drop w.out.text.opening (w.out.text.opener o m.settings.flight n a ++ block_text w.out.text.room b.text a)) (eqb (a + 1) (block_count w.out.text.room (length b.text))))
+        (L.writes.says o m.settings.flight n a (block_text w.out.text.room b.text a) six (omega (arith, few, fits))) ∙
         ap (λ (x : List ℕ). block i (place_of (w.out.text.mark o n a)) l x (eqb (a + 1) (block_count w.out.text.room (length b.text)))) (read_back ∙ sym now) ∙
         ap (λ (x : ℕ). block i (place_of (w.out.text.mark o n a)) l (text_at (cuts w.out.text.room b.text) a) (eqb (a + 1) x)) (sym (cuts_length w.out.text.room L.counted b.text)) ∙
         ap (λ (x : Bool). block i (place_of (w.out.text.mark o n a)) l (text_at (cuts w.out.text.room b.text) a) x) (sym (last_block parts)) ∙

@@ -1,5 +1,5 @@
 -- A tick at an end, as a move of the law. Assumes nothing.
-use Rattle.std.proofs.Common.{◌≡◌, ℕ, zero, suc, ◌+◌, ◌<◌, ◌≤◌, Bool, true, false, cond, leb, List, [], ◌∷◌, ◌++◌, length, Some, None, Ok, Err, Result, sym, refl, ap, ◌∙◌, subst, inl, inr, zero-add, arith}
+use Rattle.std.proofs.Common.{◌≡◌, ℕ, ◌+◌, ◌<◌, Bool, true, false, cond, leb, List, [], ◌∷◌, ◌++◌, length, Some, None, Ok, Err, Result, sym, refl, ap, ◌∙◌, subst, inl, inr, zero-add, arith}
 use mathlib.Core.Option.{Option, none, some}
 use Rattle.std.specs.declared.option.Option as std
 use Rattle.std.specs.List.{slice_get}
@@ -15,7 +15,7 @@ use Rattle.ends.specs.declared.types.Plan.{Plan}
 use Rattle.ends.specs.declared.types.Plan.TheVariants as plan
 use Rattle.ends.specs.declared.types.Stage.TheVariants.{Unsettled}
 use Rattle.ends.specs.Model.{Ways, Inbox, Model}
-use Rattle.ends.specs.Sending.{block_count, block_fields, response_fields, plan_of, plan_of_cell, otherwise, owed_by, paid, fresh_identifier, last_identifier, sent_fresh, sent_again, sent_response, sent_nothing}
+use Rattle.ends.specs.Sending.{block_fields, response_fields, plan_of, plan_of_cell, otherwise, owed_by, paid, fresh_identifier, last_identifier, sent_fresh, sent_again, sent_response}
 use Rattle.ends.specs.Calls.{BlockPut, ResponsePut, Sends, Ticks}
 use Rattle.law.specs.Directions.{Direction}
 use Rattle.law.specs.Senders.{Text, Message, Status, Course, course, number_of, index_of, block_of, Phase, Sender, sender, Quiet}
@@ -25,16 +25,16 @@ use Rattle.law.specs.Links as law
 use Rattle.law.specs.Links.{Packet, packet, acknowledgment}
 use Rattle.runs.specs.Links.{Strings, Place, Put, unput, put, Adds, Answers, block_put, current, tick, Accepted}
 use Rattle.runs.specs.Strings.{cuts}
-use Rattle.runs.proofs.Rings.{Is, Same, no_one, last_is}
-use Rattle.runs.proofs.Cuts.{Counted, cuts_length}
+use Rattle.runs.proofs.Rings.{Is, Same, no_one}
+use Rattle.runs.proofs.Cuts.{cuts_length}
 use Rattle.runs.proofs.Cells.{course_from, Holds}
-use Rattle.runs.proofs.Courses.{Apart, apart}
+use Rattle.runs.proofs.Courses.{apart}
 use Rattle.runs.proofs.Senders.{SenderIs}
 use Rattle.runs.proofs.Receivers.{ReceiverIs}
-use Rattle.runs.proofs.Firsts.{cell_of, First, All-settled, first_of}
-use Rattle.runs.proofs.Sends.{holds_at, quiet_is, early_is, FreshIs, fresh_sends, AgainIs, again_sends}
+use Rattle.runs.proofs.Firsts.{cell_of, First, first_of}
+use Rattle.runs.proofs.Sends.{holds_at, quiet_is, early_is, fresh_sends, again_sends}
 use Rattle.runs.proofs.Withdrawals.{course_number}
-use Rattle.runs.proofs.Says.{Says, AllSay, all_say_add, Copied, copied}
+use Rattle.runs.proofs.Says.{Says, AllSay, all_say_add, copied}
 use Rattle.runs.proofs.Speaks.{block_said, response_said}
 use Rattle.runs.proofs.Relating.{WayLaws, EndIs, is_end, DeedIs, Served, tick_block, tick_response, tick_nothing, tick_refused}
 use Rattle.runs.proofs.Local.{outward, same_cell, refused_is}
@@ -178,7 +178,6 @@ module _ (w : Ways) (L : WayLaws w.out) (inn : Direction) (x : w.out.other ≡ w
             settings = ap (λ (y : Model). y.settings) u.2;
           }))
 
-
   -- a tick that is not refused
   module _ {g : List Message} {c : ℕ → Status} {ph : Phase} {pt : Option ℕ} {s : ℕ} {a : Option ℕ} {part : Part} {ms : List Message} {owed : Bool}
       (A : Accepted m.settings) (S : SenderIs w.out.own w.out.text.room told m.outbox g c ph pt s) (R : ReceiverIs w.inn.own m.inbox a part ms owed) where
@@ -209,10 +208,10 @@ module _ (w : Ways) (L : WayLaws w.out) (inn : Direction) (x : w.out.other ≡ w
     taken : (t : Put) (r : Ticked) → Answers (Ok r) t → Sends (Adds t) w m (plan_of m time) time draw r m' o o' →
         Served w (outward w m.settings.originator) inn m.settings.registration told m m' i o' (tick time draw (Ok r) t (block_put (Ok r) m)) (law.an_end (sender g c ph pt s) (receiver a part ms) owed) ps qs
     taken t r answers h = elim (first_of w.out.text.room 1 m.outbox.numbered m.outbox.cells S.between S.orderly) [
-        | inl F ↦ with_first F F.gone refl (subst (λ (y : Plan). Sends (Adds t) w m y time draw r m' o o') (F.plan m time 0) h)
-        | inr N ↦ rest_serves A S R (quiet_is w.out.text.room L.counted w.out.own w.out.text m.settings.originator L.own.many (let u = L.own.seven in omega (arith, u)) S (leb m.clock.due time) N) t r answers
-            (subst (λ (y : Plan). Sends (Adds t) w m y time draw r m' o o') (N.plan m time 0) h)
-      ]
+      | inl F ↦ with_first F F.gone refl (subst (λ (y : Plan). Sends (Adds t) w m y time draw r m' o o') (F.plan m time 0) h)
+      | inr N ↦ rest_serves A S R (quiet_is w.out.text.room L.counted w.out.own w.out.text m.settings.originator L.own.many (let u = L.own.seven in omega (arith, u)) S (leb m.clock.due time) N) t r answers
+          (subst (λ (y : Plan). Sends (Adds t) w m y time draw r m' o o') (N.plan m time 0) h)
+    ]
       where
         as_block : (r ≡ ticked.Block) → Served w (outward w m.settings.originator) inn m.settings.registration told m m' i o' (tick time draw (Ok ticked.Block) t (current m)) (law.an_end (sender g c ph pt s) (receiver a part ms) owed) ps qs →
             Served w (outward w m.settings.originator) inn m.settings.registration told m m' i o' (tick time draw (Ok r) t (block_put (Ok r) m)) (law.an_end (sender g c ph pt s) (receiver a part ms) owed) ps qs

@@ -1,11 +1,8 @@
 -- What the law says of its runs holds of the runs of two real ends. Assumes nothing.
-use Rattle.std.proofs.Common.{◌≡◌, ℕ, ◌<◌, ◌≤◌, ◌⊎◌, List, [], ◌∷◌, ◌++◌, map, Some, Ok, sym, refl, ap, ◌∙◌, subst, inl, inr}
-use mathlib.Core.Option.{Option, none, some}
+use Rattle.std.proofs.Common.{◌≡◌, ℕ, List, ◌∷◌, ◌++◌, map, Some, sym, refl, ap, ◌∙◌, subst, inl, inr}
 use Rattle.std.proofs.lemmas.List.{map-append}
-use Rattle.std.specs.declared.option.Option as std
 use Rattle.stores.specs.Held.{Stored}
 use Rattle.calls.specs.declared.types.Label.{Label}
-use Rattle.calls.specs.declared.types.Outcome.{Outcome}
 use Rattle.ends.specs.Model.{Model}
 use Rattle.law.specs.Senders as senders
 use Rattle.law.specs.Senders.{Status, delivered, not_delivered, in_doubt}
@@ -15,15 +12,14 @@ use Rattle.law.specs.Truth as truth
 use Rattle.law.specs.Truth.{other, Among, Extends}
 use Rattle.law.proofs.Truths.{truth_and_order}
 use Rattle.law.proofs.RealDirections.{real_directions}
-use Rattle.runs.specs.Links.{Link, link, Deed, outcome, Event, at, Step, Run, ways_of, Onward, same, onward}
-use Rattle.runs.specs.History.{Message, message, end_of, calls, submissions, handed_out, completed, numbered, status_of, called, called_in, told_of, waits, Made, room}
-use Rattle.runs.specs.Strings.{cuts, joined_up}
+use Rattle.runs.specs.Links.{Link, Event, ways_of}
+use Rattle.runs.specs.History.{Message, message, end_of, calls, submissions, handed_out, completed, status_of, called, called_in, told_of, waits, room}
 use Rattle.runs.specs.Truth.{Bears, bears_none, bears, TrueOf, Truthful, TruthAndOrder}
 use Rattle.runs.proofs.Cuts.{counted_at, cuts_whole}
 use Rattle.runs.proofs.Receivers.{WaitingAre, none_wait, one_waits}
 use Rattle.runs.proofs.Relating.{EndIs, is_end}
-use Rattle.runs.proofs.Mapped.{Names, down_of, up_of, LinkIs, link_is, HistoryIs, RunIs, names_of, run_at, run_is, OnwardIs, onward_is, at_names}
-use Rattle.runs.proofs.Deeds.{CallsAre, calls_are, cut, flat, submissions_same, handed_same, withdrawn_to, withdrawn_from, told_to, numbered_from, last_acknowledged_to, last_acknowledged_from, late_to, late_from}
+use Rattle.runs.proofs.Mapped.{Names, down_of, up_of, LinkIs, link_is, RunIs, names_of, run_at, run_is, onward_is, at_names}
+use Rattle.runs.proofs.Deeds.{calls_are, cut, flat, submissions_same, handed_same, withdrawn_to, withdrawn_from, told_to, numbered_from, last_acknowledged_to, last_acknowledged_from, late_to, late_from}
 
 -- a message cut and joined up again
 flat_cut : (x : Side) (m : Message) → flat (cut (room x) m) ≡ m
@@ -87,9 +83,10 @@ module _ (n : Names) (x : Side) where
         truly_not = λ j e. T.truly_not j (s j ∙ e);
         delivered_when = λ j. let W = T.delivered_when j in (λ e. last_acknowledged_from x j c (W.0 (s j ∙ e)), λ q. sym (s j) ∙ W.1 (last_acknowledged_to x j c q));
         withdrawn_when = λ j.
-            let W = T.withdrawn_when j in
-            (λ e. withdrawn_from j c (W.0 (elim e [ inl a ↦ inl (s j ∙ a) | inr b ↦ inr (s j ∙ b) ])),
-            λ q. elim (W.1 (withdrawn_to j c q)) [ inl a ↦ inl (sym (s j) ∙ a) | inr b ↦ inr (sym (s j) ∙ b) ]);
+            let W = T.withdrawn_when j in (
+              λ e. withdrawn_from j c (W.0 (elim e [ inl a ↦ inl (s j ∙ a) | inr b ↦ inr (s j ∙ b) ])),
+              λ q. elim (W.1 (withdrawn_to j c q)) [ inl a ↦ inl (sym (s j) ∙ a) | inr b ↦ inr (sym (s j) ∙ b) ],
+            );
         doubt = λ j. let W = T.doubt j in (λ e. late_from x j c (W.0 (s j ∙ e)), λ q. sym (s j) ∙ W.1 (late_to x j c q));
         answered = λ j o q. sym (s j) ∙ T.answered j (status_of o) (told_to j o c q);
         at_most_one = λ j k a b d e. T.at_most_one j k (s j ∙ a) (s k ∙ b) d e;

@@ -1,5 +1,5 @@
 -- The messages that wait at an end are those that collects hand out. Assumes nothing.
-use Rattle.std.proofs.Common.{◌≡◌, ℕ, zero, suc, ◌<◌, ◌≤◌, Bool, true, false, eqb, List, [], ◌∷◌, ◌++◌, map, length, take, drop, replicate, Some, None, Ok, Err, Result, sym, refl, ap, ◌∙◌, subst, arith, eqb-true}
+use Rattle.std.proofs.Common.{◌≡◌, ℕ, ◌<◌, ◌≤◌, Bool, true, false, eqb, List, [], ◌∷◌, ◌++◌, map, length, take, drop, replicate, Some, None, Ok, Err, Result, sym, refl, ap, ◌∙◌, arith, eqb-true}
 use Rattle.std.proofs.Math.Seq.{take-append_seam}
 use Rattle.std.proofs.lemmas.List.{length-replicate}
 use Rattle.std.specs.declared.option.Option as std
@@ -9,10 +9,10 @@ use Rattle.calls.specs.declared.fault.LinkFault.{LinkFault}
 use Rattle.calls.specs.declared.fault.LinkFault.TheVariants.{Nothing}
 use Rattle.calls.specs.declared.types.Label.{Label}
 use Rattle.calls.specs.Faults.{number_of, place_of}
-use Rattle.ends.specs.Model.{Ways, Inbox, Model}
-use Rattle.ends.specs.Calls.{Collects, Collected, CollectRefused, with_inbox}
+use Rattle.ends.specs.Model.{Ways, Model}
+use Rattle.ends.specs.Calls.{Collects, CollectRefused, with_inbox}
 use Rattle.law.specs.Links.{Side, air, ground}
-use Rattle.runs.specs.Links.{Strings, Link, link, Deed, collect, collects, Serves, Event, at, Step, at_air, at_ground, ways_of}
+use Rattle.runs.specs.Links.{Strings, Link, link, collect, collects, Serves, at, Step, at_air, at_ground}
 use Rattle.runs.specs.History.{Message, message, end_of, waits, given_out}
 use Rattle.runs.specs.Truth.{HandsOut, no_more_out, one_out, WaitingComeOut}
 

@@ -1,5 +1,5 @@
 -- A withdrawal at the sending half of an end is one of the law's sender. Assumes nothing.
-use Rattle.std.proofs.Common.{◌≡◌, ℕ, zero, suc, ◌+◌, ◌-◌, ◌<◌, ◌≤◌, Bool, true, false, cond, ◌&&◌, ◌||◌, eqb, ltb, ◌⊎◌, List, [], ◌∷◌, length, Some, None, sym, refl, ap, ◌∙◌, subst, inl, inr, arith, eq-eqb, ne_eqb}
+use Rattle.std.proofs.Common.{◌≡◌, ℕ, zero, suc, ◌+◌, ◌-◌, ◌<◌, ◌≤◌, Bool, true, false, cond, ◌&&◌, ◌||◌, eqb, ltb, List, [], ◌∷◌, length, Some, sym, refl, ap, ◌∙◌, subst, inl, inr, arith, eq-eqb, ne_eqb}
 use mathlib.Core.Option.{Option}
 use Rattle.std.proofs.Math.Bool.{or-false, or-true}
 use Rattle.std.proofs.lemmas.Bool.{lt-ltb, ltb-false}
@@ -14,14 +14,14 @@ use Rattle.ends.specs.declared.types.Cell.{Cell}
 use Rattle.ends.specs.declared.types.Stage.{Stage}
 use Rattle.ends.specs.declared.types.Stage.TheVariants.{Unsettled, Settled}
 use Rattle.ends.specs.Model.{Outbox}
-use Rattle.ends.specs.Sending.{block_count, begun, last_out, stage_at, withdrawn_as}
+use Rattle.ends.specs.Sending.{block_count, begun, stage_at, withdrawn_as}
 use Rattle.law.specs.Senders.{Text, Message, Status, unsettled, not_delivered, in_doubt, settle, course, Phase, idle, ready, out, sender, ended, verdict, Begun, unbegun, from_ready, from_out}
 use Rattle.law.specs.Senders as law
 use Rattle.runs.specs.History.{status_of, called_in}
 use Rattle.runs.specs.Strings.{cuts}
 use Rattle.runs.proofs.Cuts.{Counted, cuts_length}
-use Rattle.runs.proofs.Cells.{phase_by, phase_of, Orderly, OrderlyBy, Between, Celled, course_of}
-use Rattle.runs.proofs.Courses.{text_at, Apart, apart, last_block, restaged_between, restaged_holds, restaged_celled}
+use Rattle.runs.proofs.Cells.{phase_of, Orderly, OrderlyBy, Between}
+use Rattle.runs.proofs.Courses.{apart, last_block, restaged_between, restaged_holds, restaged_celled}
 use Rattle.runs.proofs.Senders.{SenderIs, Bound}
 use Rattle.runs.proofs.Firsts.{cell_of}
 use Rattle.runs.proofs.Withdrawals.{Stands, stands_here, stands_later, stands_from, stage_restaged, stage_orderly, called_settled, none_begun, begun_phase, begun_after, unbegun_after, not_begun}
@@ -102,10 +102,10 @@ module _ (r : RingRule) (room : ℕ) (C : Counted room) where
     called_after = settle c n not_delivered;
     phase_after = ph;
     withdraws = unbegun (record {
-        given = stands_from 1 o.numbered q S.between;
-        within = let e = S.count in let f = stands_to 1 o.numbered q S.between in omega (arith, e, f);
-        open_yet = S.status n ∙ stands_called 1 o.numbered q S.between _;
-      }) (λ w. not_begun room o.passing 1 o.numbered q S.between (subst (λ (y : Phase). Begun y n) S.phase w));
+      given = stands_from 1 o.numbered q S.between;
+      within = let e = S.count in let f = stands_to 1 o.numbered q S.between in omega (arith, e, f);
+      open_yet = S.status n ∙ stands_called 1 o.numbered q S.between _;
+    }) (λ w. not_begun room o.passing 1 o.numbered q S.between (subst (λ (y : Phase). Begun y n) S.phase w));
     is = subst (λ (m : Bool). SenderIs r room told (record { numbered = o.numbered; cells = stage_at k (Settled NotDelivered) o.cells; put = o.put; spent = o.spent; passing = m }) g (settle c n not_delivered) ph p s)
         (sym (or-false o.passing))
         (settled_is S q NotDelivered o.passing ph (S.phase ∙ sym (unbegun_after room o.passing q S.orderly NotDelivered)) S.bound);
