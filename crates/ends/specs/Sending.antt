@@ -66,19 +66,22 @@ abbrev pub unsettled : Stage → Bool
 unsettled (Unsettled a out) = true
 unsettled (Settled o) = false
 
--- the place of the first outgoing message that is unsettled
+-- the place of the first outgoing message whose cell passes a test
 abbrev pub later : Option ℕ → Option ℕ
 later None = None
 later (Some i) = Some (suc i)
 
+abbrev pub place_where : (Cell → Bool) → List (Stored Cell) → Option ℕ
+place_where p [] = None
+place_where p (c ∷ cs) = cond (p c.«record») (Some 0) (later (place_where p cs))
+
+-- the place of the first outgoing message that is unsettled
 abbrev pub current_place : List (Stored Cell) → Option ℕ
-current_place [] = None
-current_place (c ∷ cs) = cond (unsettled c.«record».stage) (Some 0) (later (current_place cs))
+current_place cs = place_where (λ c. unsettled c.stage) cs
 
 -- the place of the unsettled outgoing message with a number
 abbrev pub place_of_number : ℕ → List (Stored Cell) → Option ℕ
-place_of_number n [] = None
-place_of_number n (c ∷ cs) = cond (c.«record».number == n && unsettled c.«record».stage) (Some 0) (later (place_of_number n cs))
+place_of_number n cs = place_where (λ c. c.number == n && unsettled c.stage) cs
 
 -- what a tick at a time is to send
 abbrev pub otherwise : Bool → Plan

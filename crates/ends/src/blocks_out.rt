@@ -16,7 +16,7 @@ use directions::{Direction, Identifier};
 use paths::AirPath;
 use writing::write;
 
-// How many blocks a text makes.
+// How many blocks a text of a length makes; an empty text is one.
 pub(crate) fn block_count<O: Direction>(length: usize) -> usize
     ensures { result ≡ block_count O.Direction.text.room length }
 {
@@ -26,7 +26,7 @@ pub(crate) fn block_count<O: Direction>(length: usize) -> usize
     } else if room == 0 {
         0
     } else {
-        (length - 1) / room + 1
+        length.div_ceil(room)
     }
 }
 
@@ -46,10 +46,8 @@ fn send<D: Direction, P: AirPath>(block: &Block<'_>, path: &mut P) -> Result<(),
 {
     let mut buffer = [0u8; 238];
     let n = write::<D>(block, &mut buffer)?;
-    match path.put(&buffer[0..n]) {
-        Ok(()) => Ok(()),
-        Err(_) => unreachable(),
-    }
+    path.put(&buffer[..n]).unwrap();
+    Ok(())
 }
 
 // The opening of a block's text, in its first characters.
@@ -129,13 +127,9 @@ impl<O: Direction<Other = I>, I: Direction<Other = O>> End<O, I> {
         requires { index < length (model self.now).outbox.cells }
         ensures { BlockSent P.AirPath.puts (ways O.Direction I.Direction) (model self.now) index acknowledged identifier.0 result (P.AirPath.sees path.old) (P.AirPath.sees path.new) }
     {
-        match self.sender.cells.record(index) {
-            Some(cell) => match self.sender.cells.text(index) {
-                Some(text) => self.send_block(cell, text, acknowledged, identifier, path),
-                None => unreachable(),
-            },
-            None => unreachable(),
-        }
+        let cell = self.sender.cells.record(index).unwrap();
+        let text = self.sender.cells.text(index).unwrap();
+        self.send_block(cell, text, acknowledged, identifier, path)
     }
 
     // Sends a general response.

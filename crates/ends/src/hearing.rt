@@ -135,7 +135,7 @@ fn message_part<I: Direction>(text: &[u8]) -> &[u8]
     ensures { result.now ≡ drop I.Direction.text.opening text.now }
 {
     let start = I::opening_length().min(text.len());
-    &text[start..text.len()]
+    &text[start..]
 }
 
 impl<O: Direction<Other = I>, I: Direction<Other = O>> End<O, I> {
@@ -143,33 +143,23 @@ impl<O: Direction<Other = I>, I: Direction<Other = O>> End<O, I> {
     pub(crate) fn is_again(&self, identifier: Identifier) -> bool
         ensures { result ≡ again (model self.now).inbox.accepted identifier.0 }
     {
-        match self.receiver.accepted {
-            None => false,
-            Some(last) => last.0 == identifier.0,
-        }
+        self.receiver.accepted == Some(identifier)
     }
 
     // Whether the identifier is the next after the one last accepted.
     fn is_next(&self, identifier: Identifier) -> bool
         ensures { result ≡ is_next I.Ring.ring (model self.now).inbox.accepted identifier.0 }
     {
-        match self.receiver.accepted {
-            None => false,
-            Some(last) => {
-                let following = I::following(last);
-                identifier.0 == following.0
-            }
-        }
+        self.receiver
+            .accepted
+            .is_some_and(|last| identifier == I::following(last))
     }
 
     // What the open part's newest block said of its place.
     fn part_mark(&self) -> Option<Mark>
         ensures { result ≡ mark_of (model self.now).inbox.part }
     {
-        match self.receiver.part {
-            None => None,
-            Some(part) => Some(part.mark),
-        }
+        self.receiver.part.map(|part| part.mark)
     }
 
     // What a block does to the open part, by its identifier and the octets of its text.

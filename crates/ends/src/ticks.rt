@@ -17,16 +17,8 @@ impl Sender {
     pub(crate) fn set_stage(&mut self, index: usize, stage: Stage)
         ensures { outbox_of self.new ≡ with_cells (outbox_of self.old) (stage_at index stage (outbox_of self.old).cells) }
     {
-        match self.cells.record(index) {
-            Some(cell) => self.cells.set_record(
-                index,
-                Cell {
-                    number: cell.number,
-                    label: cell.label,
-                    stage,
-                },
-            ),
-            None => {}
+        if let Some(cell) = self.cells.record(index) {
+            self.cells.set_record(index, Cell { stage, ..cell });
         }
     }
 }

@@ -3,7 +3,7 @@ use calls::{Label, Outcome};
 use directions::Mark;
 
 // How far an outgoing message is: how many of its blocks are acknowledged, and whether the next one, the current block, has gone out; or what it came to.
-#[derive(Clone, Copy)]
+#[derive(Clone, Copy, PartialEq, Eq, Debug)]
 pub enum Stage {
     Unsettled { acknowledged: u8, out: bool },
     Settled(Outcome),
@@ -18,7 +18,7 @@ pub struct Cell {
 }
 
 // The last time taken, the time at which the current block is due again, and how often it has been tried.
-#[derive(Clone, Copy)]
+#[derive(Clone, Copy, PartialEq, Eq, Debug)]
 pub struct Clock {
     pub time: u64,
     pub due: u64,
@@ -34,7 +34,7 @@ pub struct PartHead {
 }
 
 // What a tick is to send: the current block of the cell at an index, with this many blocks acknowledged before it, for the first time or again; a general response; nothing.
-#[derive(Clone, Copy)]
+#[derive(Clone, Copy, PartialEq, Eq, Debug)]
 pub enum Plan {
     Fresh { index: usize, acknowledged: u8 },
     Again { index: usize, acknowledged: u8 },
