@@ -5,6 +5,7 @@ use Rattle.blocks.specs.Fields.{named}
 use Rattle.stores.specs.Texts.{octets_of}
 use Rattle.stores.specs.Held.{Stored, stored, held}
 use Rattle.ends.specs.declared.types.PartHead.{PartHead}
+use Rattle.ends.specs.declared.types.HeardBlock.{HeardBlock}
 use Rattle.ends.specs.declared.end.Sender.{Sender}
 use Rattle.ends.specs.declared.end.Receiver.{Receiver}
 use Rattle.ends.specs.declared.end.End.{End}
@@ -12,6 +13,7 @@ use Rattle.ends.specs.declared.memory.Memory.{Memory}
 use Rattle.calls.specs.declared.types.Settings.{Settings}
 use Rattle.calls.specs.declared.fault.LinkFault.{LinkFault}
 use Rattle.ends.specs.Model.{Outbox, Inbox, Model, new_model}
+use Rattle.ends.specs.Hearing as hearing
 use Rattle.calls.specs.Faults.{number_of, place_of}
 use Rattle.calls.specs.Setting.{Good, FirstBad}
 
@@ -25,6 +27,10 @@ part_of (Some p) text = Some (stored p text)
 
 abbrev pub inbox_of : Receiver → Inbox
 inbox_of r = record { accepted = named r.accepted; owed = r.owed; part = part_of r.part (octets_of r.text); waiting = held r.waiting }
+
+-- a message block as it is heard
+abbrev pub block_of : HeardBlock → hearing.Block
+block_of b = record { identifier = b.identifier.0; label = b.label; last = b.last; text = b.text.now }
 
 -- memory of an end in which no message lies, and no text of a part
 pub record Unused (m : Memory) : Type 0 where

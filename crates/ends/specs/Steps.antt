@@ -17,7 +17,7 @@ use Rattle.ends.specs.Sending.{block_fields, acknowledged_cells, current_out, wi
 use Rattle.calls.specs.declared.fault.LinkFault.{LinkFault}
 use Rattle.calls.specs.declared.types.Heard.{Heard}
 use Rattle.ends.specs.Hearing as hearing
-use Rattle.ends.specs.Calls.{BlockPut}
+use Rattle.ends.specs.Calls.{BlockPut, with_inbox}
 
 -- a place of a list, if there is one
 abbrev pub Within : Option ℕ → ℕ → Type 0
@@ -78,8 +78,11 @@ accepting i identifier last p =
     (record { accepted = Some identifier; owed = true; part = None; waiting = i.waiting ++ stored p.«record».label p.text ∷ [] })
     (record { accepted = Some identifier; owed = true; part = Some p; waiting = i.waiting })
 
+-- the part after a block that opens it, or continues another
+abbrev pub part_with : Ways → hearing.Block → Option (Stored PartHead) → Stored PartHead
+part_with w b None = hearing.opened_part w b
+part_with w b (Some p) = hearing.continued_part w b p
+
 -- a block whose part would be p is heard
-abbrev pub PartHeard : Inbox → ℕ → Bool → Stored PartHead → Result Heard LinkFault → Inbox → Type 0
-PartHeard i identifier last p r i' =
-    (r ≡ (hearing.joined i (record { identifier = identifier; label = p.«record».label; last = last; text = [] }) (Some p)).answer) ×
-    (i' ≡ (hearing.joined i (record { identifier = identifier; label = p.«record».label; last = last; text = [] }) (Some p)).inbox)
+abbrev pub PartHeard : Model → hearing.Block → Stored PartHead → Result Heard LinkFault → Model → Type 0
+PartHeard m b p r m' = (r ≡ (hearing.joined m.inbox b (Some p)).answer) × (m' ≡ with_inbox m (hearing.joined m.inbox b (Some p)).inbox)

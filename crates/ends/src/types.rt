@@ -1,6 +1,8 @@
-// What an end holds, and what it plans.
+// What an end holds, what it plans, and what it hears.
+ghost use Rattle.std.specs.Prelude.{◌≡◌, ◌%◌, map};
+
 use calls::{Label, Outcome};
-use directions::Mark;
+use directions::{Identifier, Mark};
 
 // How far an outgoing message is: how many of its blocks are acknowledged, and whether the next one, the current block, has gone out; or what it came to.
 #[derive(Clone, Copy, PartialEq, Eq, Debug)]
@@ -40,4 +42,15 @@ pub enum Plan {
     Again { index: usize, acknowledged: u8 },
     Response,
     Nothing,
+}
+
+// A message block as it is heard: the octets of its text, and the characters that they are.
+#[derive(Clone, Copy)]
+pub(crate) struct HeardBlock<'a> {
+    pub(crate) identifier: Identifier,
+    pub(crate) label: Label,
+    pub(crate) last: bool,
+    pub(crate) octets: &'a [u8],
+    pub(crate) text: &'a [u8],
+    ghost characters: { text.now ≡ map (λ o. o % 128) octets.now },
 }
