@@ -16,9 +16,13 @@ steps (suc n) v = steps n (shifted v)
 unfoldable pub advance : ℕ → ℕ → ℕ
 advance v o = steps 8 (bit_xor v o)
 
--- the check of a string of octets: the value after all of them
+-- the value after a string of octets, from the value v
+unfoldable pub check_from : ℕ → List ℕ → ℕ
+check_from v os = fold advance v os
+
+-- the check of a string of octets
 unfoldable pub check : List ℕ → ℕ
-check os = fold advance 0 os
+check os = check_from 0 os
 
 -- the octet of the check that is sent first
 abbrev pub low : ℕ → ℕ

@@ -1,8 +1,8 @@
 -- The known values, computed.
 use Rattle.std.proofs.Common.{refl}
-use Rattle.octets.specs.Check.{shifted, steps, advance, check}
+use Rattle.octets.specs.Check.{shifted, steps, advance, check_from, check}
 use Rattle.octets.proofs.checks.check_values_stand.Goals as goal
 
 pub returns-clause-law : goal.returns-clause-law
-unfolding shifted steps advance check
+unfolding shifted steps advance check_from check
 returns-clause-law c = (refl, refl)
