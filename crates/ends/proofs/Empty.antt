@@ -1,29 +1,12 @@
 -- Stores that hold no message. Assumes nothing.
 use Rattle.std.proofs.Common.{◌≡◌, ℕ, ◌≤◌, false, leb, List, [], ◌∷◌, length, None, refl, arith, lit<, lit≤}
-use Rattle.stores.specs.Held.{Stored, record_at}
+use Rattle.stores.specs.Held.{Stored, text_at}
 use Rattle.calls.specs.declared.types.Settings.{Settings}
-use Rattle.ends.specs.declared.types.Cell.{Cell}
-use Rattle.calls.specs.declared.types.Label.{Label}
-use Rattle.ends.specs.Model.{Model, new_model}
 use Rattle.calls.specs.Setting.{Good}
 use Rattle.std.proofs.lemmas.Bool.{and_parts, leb-true}
 
--- an end that has done nothing yet, with messages
-abbrev fresh : Settings → List (Stored Cell) → List (Stored Label) → Model
-fresh s cells waiting = record {
-  settings = s;
-  outbox = record { numbered = 0; cells = cells; put = None; spent = 0; passing = false };
-  clock = record { time = 0; due = 0; tries = 0 };
-  inbox = record { accepted = None; owed = false; part = None; waiting = waiting };
-}
-
-pub fresh_empty : (s : Settings) (cells : List (Stored Cell)) (waiting : List (Stored Label)) → length cells ≡ 0 → length waiting ≡ 0 → fresh s cells waiting ≡ new_model s
-fresh_empty s [] [] p q = refl
-fresh_empty s (c ∷ cs) waiting p q = absurd (omega arith)
-fresh_empty s [] (w ∷ ws) p q = absurd (omega arith)
-
--- where there is no first record there is none
-pub none_first : {R : Type 0} (xs : List (Stored R)) → None ≡ record_at 0 xs → xs ≡ []
+-- where there is no first text there is no message
+pub none_first : {R : Type 0} (xs : List (Stored R)) → None ≡ text_at 0 xs → xs ≡ []
 none_first [] e = refl
 none_first (x ∷ xs) e = let z : ◌≡◌ {A = ℕ} 0 1 = cc in absurd (omega arith)
 

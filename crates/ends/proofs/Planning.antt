@@ -62,7 +62,7 @@ planned_otherwise false n = tt
 planned_cell : (m : Model) (t i n : ℕ) (s : Stage) → i < n → Planned (plan_of_cell m t i s) n
 planned_cell m t i n (Unsettled a false) h = h
 planned_cell m t i n (Unsettled a true) h =
-    elim (leb m.clock.due t) as (λ b. Planned (cond b (Again i a) (otherwise m.inbox.owed)) n) [ true ↦ h | false ↦ planned_otherwise m.inbox.owed n ]
+    elim (leb m.clock.due t) as (λ b. Planned (cond b (Again (record { place = i; index = a })) (otherwise m.inbox.owed)) n) [ true ↦ h | false ↦ planned_otherwise m.inbox.owed n ]
 planned_cell m t i n (Settled o) h = planned_otherwise m.inbox.owed n
 
 planned_from : (m : Model) (t : ℕ) (cs : List (Stored Cell)) (i n : ℕ) → i + length cs ≡ n → Planned (plan_from m t i cs) n

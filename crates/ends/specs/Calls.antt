@@ -121,17 +121,17 @@ pub record ResponsePut {V : Type 0} (puts : V → List ℕ → V → Type 0) (w 
 
 -- a tick that sends by its plan
 abbrev pub Sends : {V : Type 0} → (V → List ℕ → V → Type 0) → Ways → Model → Plan → ℕ → ℕ → Ticked → Model → V → V → Type 0
-Sends puts w m (plan.Fresh i a) time draw r m' v v' =
-    (r ≡ ticked.Block) × BlockPut puts w m i a (fresh_identifier w.out.own m.outbox) v v' × (m' ≡ sent_fresh w m i a time draw)
-Sends puts w m (plan.Again i a) time draw r m' v v' =
-    (r ≡ ticked.Block) × BlockPut puts w m i a (last_identifier w.out.own m.outbox) v v' × (m' ≡ sent_again m time draw)
+Sends puts w m (plan.Fresh b) time draw r m' v v' =
+    (r ≡ ticked.Block) × BlockPut puts w m b.place b.index (fresh_identifier w.out.own m.outbox) v v' × (m' ≡ sent_fresh w m b.place b.index time draw)
+Sends puts w m (plan.Again b) time draw r m' v v' =
+    (r ≡ ticked.Block) × BlockPut puts w m b.place b.index (last_identifier w.out.own m.outbox) v v' × (m' ≡ sent_again m time draw)
 Sends puts w m plan.Response time draw r m' v v' = (r ≡ ticked.Response) × ResponsePut puts w m v v' × (m' ≡ sent_response m time)
 Sends puts w m plan.Nothing time draw r m' v v' = (r ≡ ticked.Nothing) × (v' ≡ v) × (m' ≡ sent_nothing m time)
 
 -- the fields of what a plan sends are not sound, and refused so: no end that only its own calls have changed meets this
 abbrev pub Unsound : Ways → Model → Plan → ℕ → Option ℕ → Type 0
-Unsound w m (plan.Fresh i a) n p = (c : Stored Cell) × (slice_get m.outbox.cells i ≡ Some c) × writing.Refusal w.out (block_fields w m c a (fresh_identifier w.out.own m.outbox)) (replicate 238 0) n p
-Unsound w m (plan.Again i a) n p = (c : Stored Cell) × (slice_get m.outbox.cells i ≡ Some c) × writing.Refusal w.out (block_fields w m c a (last_identifier w.out.own m.outbox)) (replicate 238 0) n p
+Unsound w m (plan.Fresh b) n p = (c : Stored Cell) × (slice_get m.outbox.cells b.place ≡ Some c) × writing.Refusal w.out (block_fields w m c b.index (fresh_identifier w.out.own m.outbox)) (replicate 238 0) n p
+Unsound w m (plan.Again b) n p = (c : Stored Cell) × (slice_get m.outbox.cells b.place ≡ Some c) × writing.Refusal w.out (block_fields w m c b.index (last_identifier w.out.own m.outbox)) (replicate 238 0) n p
 Unsound w m plan.Response n p = writing.Refusal w.out (response_fields w m) (replicate 238 0) n p
 Unsound w m plan.Nothing n p = ⊥
 

@@ -88,8 +88,8 @@ abbrev pub otherwise : Bool → Plan
 otherwise owed = cond owed Response Nothing
 
 abbrev pub plan_of_cell : Model → ℕ → ℕ → Stage → Plan
-plan_of_cell m time i (Unsettled a false) = Fresh i a
-plan_of_cell m time i (Unsettled a true) = cond (nat_le m.clock.due time) (Again i a) (otherwise m.inbox.owed)
+plan_of_cell m time i (Unsettled a false) = Fresh (record { place = i; index = a })
+plan_of_cell m time i (Unsettled a true) = cond (nat_le m.clock.due time) (Again (record { place = i; index = a })) (otherwise m.inbox.owed)
 plan_of_cell m time i (Settled o) = otherwise m.inbox.owed
 
 -- the plan of the first unsettled message of the cells from place i on

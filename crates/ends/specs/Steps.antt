@@ -26,8 +26,8 @@ Within (Some i) n = i < n
 
 -- the cell that a plan names is there
 abbrev pub Planned : Plan → ℕ → Type 0
-Planned (plan.Fresh i a) n = i < n
-Planned (plan.Again i a) n = i < n
+Planned (plan.Fresh b) n = b.place < n
+Planned (plan.Again b) n = b.place < n
 Planned plan.Response n = Unit {0}
 Planned plan.Nothing n = Unit {0}
 

@@ -1,5 +1,6 @@
 // Settings whose waits are within their limits.
-ghost use Rattle.std.specs.Prelude.{◌≤◌};
+ghost use Rattle.std.specs.Prelude.{◌≡◌, ◌≤◌};
+ghost use Rattle.ends.specs.Sending.{wait_after};
 
 use calls::Settings;
 
@@ -8,4 +9,18 @@ use calls::Settings;
 pub(crate) struct Checked {
     pub(crate) values: Settings,
     ghost waits: { (values.low ≤ values.high) × (values.high ≤ 600000) × (values.contact ≤ 3600000) },
+}
+
+impl Checked {
+    // The wait after so many tries: contact from the limit on, else from low to high by the draw.
+    pub(crate) fn wait(&self, tries: u8, draw: u64) -> u64
+        ensures value { result ≡ wait_after self.now.values tries draw }
+        ensures within { result ≤ 3600000 }
+    {
+        if tries < self.values.limit {
+            self.values.low + draw % (self.values.high - self.values.low + 1)
+        } else {
+            self.values.contact
+        }
+    }
 }

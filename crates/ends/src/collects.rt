@@ -14,15 +14,10 @@ impl<O: Direction, I: Direction> End<O, I> {
         if buffer.len() < 3520 {
             return Err(LinkFault::Buffer);
         }
-        let label = self
-            .receiver
-            .waiting
-            .record(0)
-            .ok_or(LinkFault::Nothing)?;
         let text = self.receiver.waiting.text(0).ok_or(LinkFault::Nothing)?;
         let length = text.len();
         buffer[..length].copy_from_slice(text);
-        let _ = self.receiver.waiting.pop();
+        let label = self.receiver.waiting.pop().unwrap();
         Ok((label, length))
     }
 }

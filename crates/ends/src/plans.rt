@@ -3,21 +3,13 @@ ghost use Rattle.std.specs.Prelude.{◌≡◌, cond, ◌&&◌, length, Some};
 ghost use Rattle.ends.specs.Ends.{model};
 ghost use Rattle.blocks.specs.Fields.{named};
 ghost use Rattle.ends.specs.Sending.{current_place, otherwise, plan_of, plan_of_cell, fresh_identifier, last_identifier, after, owed_by, spent_by};
-ghost use Rattle.ends.specs.Calls.{on_time};
 ghost use Rattle.ends.specs.Steps.{Within, Planned};
 
 use crate::end::End;
-use crate::types::{Plan, Stage};
+use crate::types::{Current, Plan, Stage};
 use directions::{Direction, Identifier};
 
 impl<O: Direction<Other = I>, I: Direction<Other = O>> End<O, I> {
-    // Whether a time is taken: it is not before the last one, and at most 2^62.
-    pub(crate) fn on_time(&self, time: u64) -> bool
-        ensures { result ≡ on_time (model self.now) time }
-    {
-        self.clock.time <= time && time <= 4611686018427387904
-    }
-
     // What goes where no block does: a response, if an acknowledgment is owed.
     fn otherwise(&self) -> Plan
         ensures { result ≡ otherwise (model self.now).inbox.owed }
@@ -30,24 +22,18 @@ impl<O: Direction<Other = I>, I: Direction<Other = O>> End<O, I> {
     }
 
     // What a tick at a time is to send, by the stage of the current message.
-    fn plan_by(&self, index: usize, stage: Stage, time: u64) -> Plan
-        ensures { result ≡ plan_of_cell (model self.now) time index stage }
+    fn plan_by(&self, place: usize, stage: Stage, time: u64) -> Plan
+        ensures { result ≡ plan_of_cell (model self.now) time place stage }
     {
         match stage {
             Stage::Unsettled {
-                acknowledged,
+                acknowledged: index,
                 out: false,
-            } => Plan::Fresh {
-                index,
-                acknowledged,
-            },
+            } => Plan::Fresh(Current { place, index }),
             Stage::Unsettled {
-                acknowledged,
+                acknowledged: index,
                 out: true,
-            } if self.clock.due <= time => Plan::Again {
-                index,
-                acknowledged,
-            },
+            } if self.clock.due <= time => Plan::Again(Current { place, index }),
             _ => self.otherwise(),
         }
     }

@@ -30,9 +30,10 @@ impl<O: Direction<Other = I>, I: Direction<Other = O>> End<O, I> {
                 out: false,
             },
         };
-        if !self.sender.cells.push(cell, text) {
-            return Err(LinkFault::Full);
-        }
+        self.sender
+            .cells
+            .push(cell, text)
+            .map_err(|_| LinkFault::Full)?;
         self.sender.numbered = number;
         Ok(number)
     }

@@ -35,11 +35,18 @@ pub struct PartHead {
     pub blocks: u8,
 }
 
-// What a tick is to send: the current block of the cell at an index, with this many blocks acknowledged before it, for the first time or again; a general response; nothing.
+// A current block: the place of its message, and its index, which is how many blocks are acknowledged before it.
+#[derive(Clone, Copy, PartialEq, Eq, Debug)]
+pub struct Current {
+    pub place: usize,
+    pub index: u8,
+}
+
+// What a tick is to send: a current block, for the first time or again; a general response; nothing.
 #[derive(Clone, Copy, PartialEq, Eq, Debug)]
 pub enum Plan {
-    Fresh { index: usize, acknowledged: u8 },
-    Again { index: usize, acknowledged: u8 },
+    Fresh(Current),
+    Again(Current),
     Response,
     Nothing,
 }

@@ -10,9 +10,9 @@ pub returns-in-Some : goal.returns-in-Some
 returns-in-Some c =
     let cs = held c.args.self.now.cells in
     ap (λ (x : List (Stored Cell)). with_cells (outbox_of c.args.self.now) x)
-    (c.set_record.ensures ∙ stage_set cs c.args.index c.in-Some.cell c.args.stage (sym c.in-Some.ensures))
+    (c.set_record.ensures ∙ stage_set cs c.args.place c.in-Some.cell c.args.stage (sym c.in-Some.ensures))
 
 pub returns-in_default : goal.returns-in_default
 returns-in_default c =
     let cs = held c.args.self.now.cells in
-    ap (λ (x : List (Stored Cell)). with_cells (outbox_of c.args.self.now) x) (stage_past cs c.args.index c.args.stage (sym c.in_default.ensures))
+    ap (λ (x : List (Stored Cell)). with_cells (outbox_of c.args.self.now) x) (stage_past cs c.args.place c.args.stage (sym c.in_default.ensures))
