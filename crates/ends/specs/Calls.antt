@@ -147,7 +147,7 @@ Ticks puts w m time draw (Err f) m' v v' = (m' ≡ m) × (v' ≡ v) × TickRefus
 
 -- the end with another receiving half
 abbrev pub with_inbox : Model → Inbox → Model
-with_inbox m i = record { settings = m.settings; outbox = m.outbox; clock = m.clock; inbox = i }
+with_inbox m i = record m { inbox = i }
 
 -- a message block is heard: the acknowledgment was counted, the receiving half does the rest
 abbrev pub BlockHeard : Ways → Model → hearing.Block → Result Heard LinkFault → Model → Type 0
@@ -189,12 +189,7 @@ pub record Collected (m : Model) (before : List ℕ) (label : Label) (n : ℕ) (
   pub label_is : label ≡ message.«record»
   pub long : n ≡ length message.text
   pub holds : buffer ≡ message.text ++ drop n before
-  pub after : m' ≡ with_inbox m (record { accepted = m.inbox.accepted; owed = m.inbox.owed; part = m.inbox.part; waiting = rest })
-
--- a text, if there is one, is copied to the start of a buffer; behind it what stood there
-abbrev pub Copies : Option (List ℕ) → List ℕ → ℕ → List ℕ → Type 0
-Copies None before n after = (n ≡ 0) × (after ≡ before)
-Copies (Some t) before n after = (n ≡ length t) × (after ≡ t ++ drop (length t) before)
+  pub after : m' ≡ with_inbox m (record m.inbox { waiting = rest })
 
 abbrev pub CollectRefused : Model → List ℕ → ℕ → Option ℕ → Type 0
 CollectRefused m buffer n (Some p) = ⊥

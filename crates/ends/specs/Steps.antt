@@ -13,16 +13,11 @@ use Rattle.ends.specs.declared.types.Plan.{Plan}
 use Rattle.ends.specs.declared.types.Plan.TheVariants as plan
 use Rattle.ends.specs.declared.types.PartHead.{PartHead}
 use Rattle.ends.specs.Model.{Ways, Inbox, Model}
-use Rattle.ends.specs.Sending.{block_fields, acknowledged_cells, current_out, with_outbox}
+use Rattle.ends.specs.Sending.{block_fields, current_out, moved_on}
 use Rattle.calls.specs.declared.fault.LinkFault.{LinkFault}
 use Rattle.calls.specs.declared.types.Heard.{Heard}
 use Rattle.ends.specs.Hearing as hearing
 use Rattle.ends.specs.Calls.{BlockPut, with_inbox}
-
--- a place of a list, if there is one
-abbrev pub Within : Option ℕ → ℕ → Type 0
-Within None n = Unit {0}
-Within (Some i) n = i < n
 
 -- the cell that a plan names is there
 abbrev pub Planned : Plan → ℕ → Type 0
@@ -49,34 +44,13 @@ abbrev pub BlockSent : {V : Type 0} → (V → List ℕ → V → Type 0) → Wa
 BlockSent puts w m i a identifier (Ok _) v v' = BlockPut puts w m i a identifier v v'
 BlockSent puts w m i a identifier (Err x) v v' = (v' ≡ v) × BlockRefused w m i a identifier x
 
--- the length of a text, 0 where there is none
-abbrev pub length_of : Option (List ℕ) → ℕ
-length_of None = 0
-length_of (Some t) = length t
-
 -- the end after an acknowledgment that names the identifier last put
 abbrev pub acknowledged : Ways → Model → Model
-acknowledged w m =
-    cond (current_out m.outbox.cells)
-    (with_outbox m (record {
-      numbered = m.outbox.numbered;
-      cells = acknowledged_cells w.out.text.room m.outbox.cells;
-      put = m.outbox.put;
-      spent = 0;
-      passing = m.outbox.passing;
-    }))
-    m
+acknowledged w m = cond (current_out m.outbox.cells) (moved_on w m) m
 
 -- the receiving half with another open part
 abbrev pub with_part : Inbox → Stored PartHead → Inbox
-with_part i p = record { accepted = i.accepted; owed = i.owed; part = Some p; waiting = i.waiting }
-
--- the receiving half after a block of the open part was accepted: the part goes on, or it completes and joins the messages that wait
-abbrev pub accepting : Inbox → ℕ → Bool → Stored PartHead → Inbox
-accepting i identifier last p =
-    cond last
-    (record { accepted = Some identifier; owed = true; part = None; waiting = i.waiting ++ stored p.«record».label p.text ∷ [] })
-    (record { accepted = Some identifier; owed = true; part = Some p; waiting = i.waiting })
+with_part i p = record i { part = Some p }
 
 -- the part after a block that opens it, or continues another
 abbrev pub part_with : Ways → hearing.Block → Option (Stored PartHead) → Stored PartHead

@@ -1,10 +1,9 @@
 // Counting an acknowledgment.
-ghost use Rattle.std.specs.Prelude.{◌≡◌, Some};
-ghost use Rattle.stores.specs.Held.{text_at};
+ghost use Rattle.std.specs.Prelude.{◌≡◌};
 ghost use Rattle.blocks.specs.Fields.{named};
 ghost use Rattle.ends.specs.Ends.{model};
-ghost use Rattle.ends.specs.Sending.{names, counted, current_place};
-ghost use Rattle.ends.specs.Steps.{length_of, acknowledged};
+ghost use Rattle.ends.specs.Sending.{names, counted};
+ghost use Rattle.ends.specs.Steps.{acknowledged};
 ghost use Rattle.ends.specs.Model.{ways};
 
 use crate::blocks_out::block_count;

@@ -3,9 +3,9 @@ ghost use Rattle.std.specs.Prelude.{◌≡◌, ◌<◌, true, ◌&&◌, [], cond
 ghost use Rattle.stores.specs.Held.{stored, held};
 ghost use Rattle.stores.specs.Texts.{octets_of};
 ghost use Rattle.ends.specs.Ends.{model, inbox_of, part_of, block_of};
-ghost use Rattle.ends.specs.Hearing.{again, is_next, mark_of, owing, lengthened, joining_of};
+ghost use Rattle.ends.specs.Hearing.{again, is_next, owing, lengthened, joining_of, accepted_part};
 ghost use Rattle.ends.specs.Calls.{BlockHeard};
-ghost use Rattle.ends.specs.Steps.{with_part, accepting, part_with, PartHeard};
+ghost use Rattle.ends.specs.Steps.{with_part, part_with, PartHeard};
 ghost use Rattle.ends.specs.Model.{ways};
 
 use crate::end::{End, Receiver};
@@ -36,14 +36,14 @@ impl Receiver {
     }
 
     // Accepts the newest block of the open part: the part goes on, or it completes and waits.
-    fn accept(&mut self, identifier: Identifier, head: PartHead, last: bool)
+    fn accept(&mut self, block: HeardBlock<'_>, head: PartHead)
         requires part { self.old.part ≡ Some head }
-        requires room { last ≡ true → length (held self.old.waiting) < 4 }
-        ensures { inbox_of self.new ≡ accepting (inbox_of self.old) identifier.0 last (stored head (octets_of self.old.text)) }
+        requires room { block.last ≡ true → length (held self.old.waiting) < 4 }
+        ensures { inbox_of self.new ≡ accepted_part (inbox_of self.old) (block_of block.entry) (stored head (octets_of self.old.text)) }
     {
-        self.accepted = Some(identifier);
+        self.accepted = Some(block.identifier);
         self.owed = true;
-        if last {
+        if block.last {
             let _ = self.waiting.push(head.label, self.text.as_slice());
             self.part = None;
         }
@@ -111,7 +111,7 @@ impl<O: Direction<Other = I>, I: Direction<Other = O>> End<O, I> {
         };
         let more = message_part::<I>(block.text);
         self.receiver.lengthen(continued.is_none(), head, more);
-        self.receiver.accept(block.identifier, head, block.last);
+        self.receiver.accept(block, head);
         if block.last {
             Ok(Heard::Complete)
         } else {

@@ -1,9 +1,9 @@
 // What a tick is to send.
-ghost use Rattle.std.specs.Prelude.{◌≡◌, cond, ◌&&◌, length, Some};
+ghost use Rattle.std.specs.Prelude.{◌≡◌, length};
 ghost use Rattle.ends.specs.Ends.{model};
 ghost use Rattle.blocks.specs.Fields.{named};
-ghost use Rattle.ends.specs.Sending.{current_place, otherwise, plan_of, plan_of_cell, fresh_identifier, last_identifier, after, owed_by, spent_by};
-ghost use Rattle.ends.specs.Steps.{Within, Planned};
+ghost use Rattle.ends.specs.Sending.{otherwise, plan_of, plan_of_cell, fresh_identifier, last_identifier, after, owed_by, spent_by};
+ghost use Rattle.ends.specs.Steps.{Planned};
 
 use crate::end::End;
 use crate::types::{Current, Plan, Stage};
@@ -81,11 +81,9 @@ impl<O: Direction<Other = I>, I: Direction<Other = O>> End<O, I> {
     pub(crate) fn spent_by(&self) -> u8
         ensures { result ≡ spent_by (model self.now).outbox }
     {
-        if self.sender.passing {
-            self.sender.spent.saturating_add(2)
-        } else {
-            self.sender.spent.saturating_add(1)
-        }
+        self.sender
+            .spent
+            .saturating_add(if self.sender.passing { 2 } else { 1 })
     }
 
     // The acknowledgment that goes with a string.
