@@ -1,5 +1,5 @@
 -- What a tick is to send, by the first unsettled message. Assumes nothing.
-use Rattle.std.proofs.Common.{◌≡◌, ℕ, zero, suc, ◌+◌, ◌<◌, Bool, true, false, cond, leb, List, [], ◌∷◌, length, Some, None, Option, sym, refl, ap, ◌∙◌, subst, arith}
+use Rattle.std.proofs.Common.{◌≡◌, ℕ, zero, suc, ◌+◌, ◌<◌, Bool, true, false, cond, leb, List, [], ◌∷◌, length, Some, None, Option, MatchOption, sym, refl, ap, ◌∙◌, subst, arith}
 use Rattle.std.specs.List.{slice_get}
 use Rattle.stores.specs.Held.{Stored, stored}
 use Rattle.ends.specs.declared.types.Cell.{Cell}
@@ -14,7 +14,7 @@ use Rattle.ends.specs.Sending.{unsettled, later, current_place, otherwise, plan_
 use Rattle.ends.specs.Finding.{Finds}
 use Rattle.ends.proofs.Founds.{found_there, not_later, later_zero, later_suc}
 
-pub plan_none : (m : Model) (t : ℕ) (cs : List (Stored Cell)) (i : ℕ) → current_place cs ≡ None → plan_from m t i cs ≡ otherwise m.inbox.owed
+plan_none : (m : Model) (t : ℕ) (cs : List (Stored Cell)) (i : ℕ) → current_place cs ≡ None → plan_from m t i cs ≡ otherwise m.inbox.owed
 plan_none m t [] i e = refl
 plan_none m t (c ∷ cs) i e =
     elim (unsettled c.«record».stage) as (λ b. cond b (Some 0) (later (current_place cs)) ≡ None →
@@ -47,12 +47,18 @@ plan_some m t (d ∷ cs) i (suc k) c e h = go (λ q. plan_some m t cs (suc i) k 
         rest (later_suc (current_place cs) k (ap (λ (b : Bool). cond b (Some 0) (later (current_place cs))) (sym u) ∙ e)) ∙
         ap (λ (j : ℕ). plan_of_cell m t j c.«record».stage) n
 
-pub plan_found : (m : Model) (t : ℕ) (f : Found) → Finds (current_place m.outbox.cells) m.outbox.cells f → plan_of_cell m t f.place f.cell.stage ≡ plan_of m t
+plan_found : (m : Model) (t : ℕ) (f : Found) → Finds (current_place m.outbox.cells) m.outbox.cells f → plan_of_cell m t f.place f.cell.stage ≡ plan_of m t
 plan_found m t f h =
     let p = found_there f.place m.outbox.cells f h.there in
     let n : f.place + 0 ≡ f.place = omega arith in
     sym (plan_some m t m.outbox.cells 0 f.place p.cell h.first p.there ∙
     ap (λ (j : ℕ). plan_of_cell m t j p.cell.«record».stage) n ∙ ap (λ (x : Found). plan_of_cell m t f.place x.cell.stage) p.is)
+
+-- the plan by the current message, if there is one
+pub plan_by_found : (m : Model) (t : ℕ) (o : Option Found) (p : Plan) → MatchOption o (current_place m.outbox.cells ≡ None) (λ f. Finds (current_place m.outbox.cells) m.outbox.cells f) →
+    MatchOption o (p ≡ otherwise m.inbox.owed) (λ f. p ≡ plan_of_cell m t f.place f.cell.stage) → p ≡ plan_of m t
+plan_by_found m t None p h e = e ∙ sym (plan_none m t m.outbox.cells 0 h)
+plan_by_found m t (Some f) p h e = e ∙ plan_found m t f h
 
 -- the cell that a plan names is there
 planned_otherwise : (b : Bool) (n : ℕ) → Planned (otherwise b) n

@@ -6,6 +6,7 @@ ghost use Rattle.ends.specs.Sending.{otherwise, plan_of, plan_of_cell, fresh_ide
 ghost use Rattle.ends.specs.Steps.{Planned};
 
 use crate::end::End;
+use crate::finding::Found;
 use crate::types::{Current, Plan, Stage};
 use directions::{Direction, Identifier};
 
@@ -21,11 +22,12 @@ impl<O: Direction<Other = I>, I: Direction<Other = O>> End<O, I> {
         }
     }
 
-    // What a tick at a time is to send, by the stage of the current message.
-    fn plan_by(&self, place: usize, stage: Stage, time: u64) -> Plan
-        ensures { result ≡ plan_of_cell (model self.now) time place stage }
+    // What a tick at a time is to send, by the current message.
+    fn plan_by(&self, current: Found, time: u64) -> Plan
+        ensures { result ≡ plan_of_cell (model self.now) time current.place current.cell.stage }
     {
-        match stage {
+        let place = current.place;
+        match current.cell.stage {
             Stage::Unsettled {
                 acknowledged: index,
                 out: false,
@@ -43,10 +45,9 @@ impl<O: Direction<Other = I>, I: Direction<Other = O>> End<O, I> {
         ensures value { result ≡ plan_of (model self.now) time }
         ensures within { Planned result (length (model self.now).outbox.cells) }
     {
-        match self.sender.current() {
-            Some(found) => self.plan_by(found.place, found.cell.stage, time),
-            None => self.otherwise(),
-        }
+        self.sender
+            .current()
+            .map_or(self.otherwise(), |found| self.plan_by(found, time))
     }
 
     // The identifier last put in a message block, the ring's first if none was.
