@@ -14,7 +14,7 @@ out_none : (cs : List (Stored Cell)) → current_place cs ≡ None → current_o
 out_none [] e = refl
 out_none (c ∷ cs) e =
     elim (unsettled c.«record».stage) as (λ b. cond b (Some 0) (later (current_place cs)) ≡ None → cond b (is_out c.«record».stage) (current_out cs) ≡ false) [
-      | true ↦ (λ h. let z : ◌≡◌ {A = ℕ} 0 1 = cc in absurd (omega arith))
+      | true ↦ (λ h. cc)
       | false ↦ (λ h. out_none cs (not_later (current_place cs) h))
     ] e
 
@@ -24,7 +24,7 @@ record At-place (cs : List (Stored Cell)) (k : ℕ) (r : Stored Cell) : Type 0 w
   pub cells : (room : ℕ) → is_out r.«record».stage ≡ true → acknowledged_cells room cs ≡ stage_at k (advanced (block_count room (length r.text)) r.«record».stage) cs
 
 at_place : (cs : List (Stored Cell)) (k : ℕ) (r : Stored Cell) → current_place cs ≡ Some k → slice_get cs k ≡ Some r → At-place cs k r
-at_place [] k r e h = let z : ◌≡◌ {A = ℕ} 0 1 = cc in absurd (omega arith)
+at_place [] k r e h = cc
 at_place (c ∷ cs) zero r e h = go (unsettled c.«record».stage) refl
   where
     go : (b : Bool) → unsettled c.«record».stage ≡ b → At-place (c ∷ cs) zero r
@@ -44,8 +44,7 @@ at_place (c ∷ cs) (suc k) r e h = go (λ q. at_place cs k r q h) (unsettled c.
   where
     go : (current_place cs ≡ Some k → At-place cs k r) → (b : Bool) → unsettled c.«record».stage ≡ b → At-place (c ∷ cs) (suc k) r
     go rest true u =
-        let q : Some 0 ≡ Some (suc k) = ap (λ (b : Bool). cond b (Some 0) (later (current_place cs))) (sym u) ∙ e in
-        let z : 0 ≡ suc k = cc in absurd (omega arith)
+        let q : Some 0 ≡ Some (suc k) = ap (λ (b : Bool). cond b (Some 0) (later (current_place cs))) (sym u) ∙ e in cc
     go rest false u =
         let p = rest (later_suc (current_place cs) k (ap (λ (b : Bool). cond b (Some 0) (later (current_place cs))) (sym u) ∙ e)) in
         record {

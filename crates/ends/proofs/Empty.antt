@@ -8,7 +8,7 @@ use Rattle.std.proofs.lemmas.Bool.{and_parts, leb-true}
 -- where there is no first text there is no message
 pub none_first : {R : Type 0} (xs : List (Stored R)) → None ≡ text_at 0 xs → xs ≡ []
 none_first [] e = refl
-none_first (x ∷ xs) e = let z : ◌≡◌ {A = ℕ} 0 1 = cc in absurd (omega arith)
+none_first (x ∷ xs) e = cc
 
 -- the waits of good settings are within their limits
 pub waits_within : (s : Settings) → Good s → (s.low ≤ s.high) × (s.high ≤ 600000) × (s.contact ≤ 3600000)

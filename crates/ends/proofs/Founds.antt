@@ -23,7 +23,7 @@ place_none p (c ∷ cs) h =
     ap (λ (b : Bool). cond b (Some 0) (later (place_where p cs))) (h 0 (omega arith)) ∙ ap later (place_none p cs (λ k l. h (suc k) (omega arith)))
 
 pub place_some : (p : Cell → Bool) (cs : List (Stored Cell)) (i : ℕ) → ((k : ℕ) → k < i → passes p (record_at k cs) ≡ false) → passes p (record_at i cs) ≡ true → place_where p cs ≡ Some i
-place_some p [] i h w = let y : ◌≡◌ {A = ℕ} 0 1 = cc in absurd (omega arith)
+place_some p [] i h w = cc
 place_some p (c ∷ cs) zero h w = ap (λ (b : Bool). cond b (Some 0) (later (place_where p cs))) w
 place_some p (c ∷ cs) (suc i) h w =
     ap (λ (b : Bool). cond b (Some 0) (later (place_where p cs))) (h 0 (omega arith)) ∙ ap later (place_some p cs i (λ k l. h (suc k) (omega arith)) w)
@@ -37,20 +37,20 @@ pub record There (i : ℕ) (cells : List (Stored Cell)) (f : Found) : Type 0 whe
 pub found_there : (i : ℕ) (cells : List (Stored Cell)) (f : Found) → found_at i cells ≡ Some f → There i cells f
 found_there i cells f e = go (slice_get cells i) refl e where
   go : (o : Option (Stored Cell)) → slice_get cells i ≡ o → option_map (found_in i) o ≡ Some f → There i cells f
-  go None q h = let z : ◌≡◌ {A = ℕ} 0 1 = cc in absurd (omega arith)
+  go None q h = cc
   go (Some c) q h = record { cell = c; there = q; is = cc }
 
 pub not_later : (o : Option ℕ) → later o ≡ None → o ≡ None
 not_later None h = refl
-not_later (Some j) h = let z : ◌≡◌ {A = ℕ} 0 1 = cc in absurd (omega arith)
+not_later (Some j) h = cc
 
 pub later_zero : (o : Option ℕ) → later o ≡ Some 0 → ⊥
-later_zero None h = let z : ◌≡◌ {A = ℕ} 0 1 = cc in omega arith
-later_zero (Some j) h = let z : suc j ≡ 0 = cc in omega arith
+later_zero None h = cc
+later_zero (Some j) h = cc
 
 pub later_suc : (o : Option ℕ) (k : ℕ) → later o ≡ Some (suc k) → o ≡ Some k
-later_suc None k h = let z : ◌≡◌ {A = ℕ} 0 1 = cc in absurd (omega arith)
-later_suc (Some j) k h = let z : suc j ≡ suc k = cc in let y : j ≡ k = omega arith in ap (λ (n : ℕ). Some n) y
+later_suc None k h = cc
+later_suc (Some j) k h = cc
 
 -- the message at the first place that passes
 pub first_found : (p : Cell → Bool) (cs : List (Stored Cell)) (i : ℕ) (r : Option Found) → r ≡ found_at i cs → passes p (record_at i cs) ≡ true → ((k : ℕ) → 0 ≤ k → k < i → passes p (record_at k cs) ≡ false) →
@@ -62,7 +62,7 @@ first_found p cs i r e there before = go (slice_get cs i) refl
     go : (o : Option (Stored Cell)) → slice_get cs i ≡ o → MatchOption r (place_where p cs ≡ None) (λ f. Finds (place_where p cs) cs f)
     go None q =
         let h : passes p (option_map (λ (c : Stored Cell). c.«record») None) ≡ true = subst (λ (o : Option (Stored Cell)). passes p (option_map (λ (c : Stored Cell). c.«record») o) ≡ true) q there in
-        let y : ◌≡◌ {A = ℕ} 0 1 = cc in absurd (omega arith)
+        cc
     go (Some c) q =
         let here : found_at i cs ≡ Some (found_in i c) = ap (option_map (found_in i)) q in
         subst (λ (o : Option Found). MatchOption o (place_where p cs ≡ None) (λ f. Finds (place_where p cs) cs f)) (sym (e ∙ here))

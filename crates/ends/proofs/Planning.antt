@@ -19,12 +19,12 @@ plan_none m t [] i e = refl
 plan_none m t (c ∷ cs) i e =
     elim (unsettled c.«record».stage) as (λ b. cond b (Some 0) (later (current_place cs)) ≡ None →
     cond b (plan_of_cell m t i c.«record».stage) (plan_from m t (suc i) cs) ≡ otherwise m.inbox.owed) [
-      | true ↦ (λ e. let z : ◌≡◌ {A = ℕ} 0 1 = cc in absurd (omega arith))
+      | true ↦ (λ e. cc)
       | false ↦ (λ e. plan_none m t cs (suc i) (not_later (current_place cs) e))
     ] e
 
 plan_some : (m : Model) (t : ℕ) (cs : List (Stored Cell)) (i k : ℕ) (c : Stored Cell) → current_place cs ≡ Some k → slice_get cs k ≡ Some c → plan_from m t i cs ≡ plan_of_cell m t (k + i) c.«record».stage
-plan_some m t [] i k c e h = let z : ◌≡◌ {A = ℕ} 0 1 = cc in absurd (omega arith)
+plan_some m t [] i k c e h = cc
 plan_some m t (d ∷ cs) i zero c e h = go (unsettled d.«record».stage) refl
   where
     go : (b : Bool) → unsettled d.«record».stage ≡ b → plan_from m t i (d ∷ cs) ≡ plan_of_cell m t (0 + i) c.«record».stage
@@ -39,8 +39,7 @@ plan_some m t (d ∷ cs) i (suc k) c e h = go (λ q. plan_some m t cs (suc i) k 
     go : (current_place cs ≡ Some k → plan_from m t (suc i) cs ≡ plan_of_cell m t (k + suc i) c.«record».stage) → (b : Bool) → unsettled d.«record».stage ≡ b →
         plan_from m t i (d ∷ cs) ≡ plan_of_cell m t (suc k + i) c.«record».stage
     go rest true u =
-        let q : Some 0 ≡ Some (suc k) = ap (λ (b : Bool). cond b (Some 0) (later (current_place cs))) (sym u) ∙ e in
-        let z : 0 ≡ suc k = cc in absurd (omega arith)
+        let q : Some 0 ≡ Some (suc k) = ap (λ (b : Bool). cond b (Some 0) (later (current_place cs))) (sym u) ∙ e in cc
     go rest false u =
         let n : k + suc i ≡ suc k + i = omega arith in
         ap (λ (b : Bool). cond b (plan_of_cell m t i d.«record».stage) (plan_from m t (suc i) cs)) u ∙

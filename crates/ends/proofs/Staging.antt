@@ -14,5 +14,5 @@ stage_set (c ∷ cs) (suc i) r s e = ap (λ (x : List (Stored Cell)). c ∷ x) (
 
 pub stage_past : (cs : List (Stored Cell)) (i : ℕ) (s : Stage) → record_at i cs ≡ None → cs ≡ stage_at i s cs
 stage_past [] i s e = refl
-stage_past (c ∷ cs) zero s e = let z : ◌≡◌ {A = ℕ} 0 1 = cc in absurd (omega arith)
+stage_past (c ∷ cs) zero s e = cc
 stage_past (c ∷ cs) (suc i) s e = ap (λ (x : List (Stored Cell)). c ∷ x) (stage_past cs i s e)

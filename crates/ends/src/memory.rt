@@ -1,5 +1,5 @@
 // The memory of an end.
-ghost use Rattle.std.specs.Prelude.{◌≡◌, length};
+ghost use Rattle.std.specs.Prelude.{◌≡◌, []};
 ghost use Rattle.stores.specs.Held.{held};
 
 use crate::types::Cell;
@@ -13,7 +13,8 @@ pub struct Memory {
     pub(crate) cells: MessageStore<Cell>,
     pub(crate) waiting: MessageStore<Label>,
     pub(crate) text: Text,
-    ghost unused: { (length (held cells) ≡ 0) × (length (held waiting) ≡ 0) },
+    ghost no_cells: { held cells ≡ [] },
+    ghost no_waiting: { held waiting ≡ [] },
 }
 
 impl Memory {
