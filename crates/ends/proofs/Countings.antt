@@ -28,31 +28,15 @@ at_place [] k r e h = cc
 at_place (c ∷ cs) zero r e h = go (unsettled c.«record».stage) refl
   where
     go : (b : Bool) → unsettled c.«record».stage ≡ b → At-place (c ∷ cs) zero r
-    go false u = absurd (later_zero (current_place cs) (ap (λ (b : Bool). cond b (Some 0) (later (current_place cs))) (sym u) ∙ e))
-    go true u =
-        let k : c ≡ r = cc in
-        let s : is_out c.«record».stage ≡ is_out r.«record».stage = ap (λ (x : Stored Cell). is_out x.«record».stage) k in
-        record {
-          out = ap (λ (b : Bool). cond b (is_out c.«record».stage) (current_out cs)) u ∙ s;
-          cells = λ room o.
-              let new = stored (staged c.«record» (advanced (block_count room (length c.text)) c.«record».stage)) c.text in
-              ap (λ (b : Bool). cond b (cond (is_out c.«record».stage) new c ∷ cs) (c ∷ acknowledged_cells room cs)) u ∙
-              ap (λ (b : Bool). cond b new c ∷ cs) (s ∙ o) ∙
-              ap (λ (x : Stored Cell). stored (staged c.«record» (advanced (block_count room (length x.text)) x.«record».stage)) c.text ∷ cs) k;
-        }
+    go false u = absurd (later_zero (current_place cs) (rw u at e))
+    go true u = let k : c ≡ r = cc in record { out = rw (u, k); cells = λ room o. rw (u, k, o) }
 at_place (c ∷ cs) (suc k) r e h = go (λ q. at_place cs k r q h) (unsettled c.«record».stage) refl
   where
     go : (current_place cs ≡ Some k → At-place cs k r) → (b : Bool) → unsettled c.«record».stage ≡ b → At-place (c ∷ cs) (suc k) r
-    go rest true u =
-        let q : Some 0 ≡ Some (suc k) = ap (λ (b : Bool). cond b (Some 0) (later (current_place cs))) (sym u) ∙ e in cc
+    go rest true u = let q = rw u at e in cc
     go rest false u =
-        let p = rest (later_suc (current_place cs) k (ap (λ (b : Bool). cond b (Some 0) (later (current_place cs))) (sym u) ∙ e)) in
-        record {
-          out = ap (λ (b : Bool). cond b (is_out c.«record».stage) (current_out cs)) u ∙ p.out;
-          cells = λ room o.
-              ap (λ (b : Bool). cond b (cond (is_out c.«record».stage) (stored (staged c.«record» (advanced (block_count room (length c.text)) c.«record».stage)) c.text) c ∷ cs) (c ∷ acknowledged_cells room cs)) u ∙
-              ap (λ (x : List (Stored Cell)). c ∷ x) (p.cells room o);
-        }
+        let p = rest (later_suc (current_place cs) k (rw u at e)) in
+        record { out = rw u p.out; cells = λ room o. rw u (ap (λ (x : List (Stored Cell)). c ∷ x) (p.cells room o)) }
 
 -- a sending half with nothing spent
 abbrev pub reset : Outbox → Outbox
@@ -66,13 +50,13 @@ abbrev pub acknowledged_by : ℕ → Model → Model
 acknowledged_by room m = cond (current_out m.outbox.cells) (after room m) m
 
 pub kept_none : (room : ℕ) (m : Model) → current_place m.outbox.cells ≡ None → m ≡ acknowledged_by room m
-kept_none room m e = sym (ap (λ (b : Bool). cond b (after room m) m) (out_none m.outbox.cells e))
+kept_none room m e = rw (out_none m.outbox.cells e)
 
 pub kept_at : (room : ℕ) (m : Model) (f : Found) → Finds (current_place m.outbox.cells) m.outbox.cells f → is_out f.cell.stage ≡ false → m ≡ acknowledged_by room m
 kept_at room m f h o =
     let t = found_there f.place m.outbox.cells f h.there in
     let i : is_out t.cell.«record».stage ≡ is_out f.cell.stage = ap (λ (x : Found). is_out x.cell.stage) t.is in
-    sym (ap (λ (b : Bool). cond b (after room m) m) ((at_place m.outbox.cells f.place t.cell h.first t.there).out ∙ i ∙ o))
+    rw ((at_place m.outbox.cells f.place t.cell h.first t.there).out ∙ i ∙ o)
 
 pub moved_at : (room : ℕ) (m : Model) (f : Found) → Finds (current_place m.outbox.cells) m.outbox.cells f → is_out f.cell.stage ≡ true →
     with_outbox m (reset (with_cells m.outbox (stage_at f.place (advanced (block_count room f.length) f.cell.stage) m.outbox.cells))) ≡ acknowledged_by room m
@@ -81,6 +65,5 @@ moved_at room m f h o =
     let t = found_there f.place cs f h.there in
     let p = at_place cs f.place t.cell h.first t.there in
     let i : is_out t.cell.«record».stage ≡ is_out f.cell.stage = ap (λ (x : Found). is_out x.cell.stage) t.is in
-    ap (λ (x : Found). with_outbox m (reset (with_cells m.outbox (stage_at f.place (advanced (block_count room x.length) x.cell.stage) cs)))) (sym t.is) ∙
-    ap (λ (z : List (Stored Cell)). with_outbox m (reset (with_cells m.outbox z))) (sym (p.cells room (i ∙ o))) ∙
-    sym (ap (λ (z : Bool). cond z (after room m) m) (p.out ∙ i ∙ o))
+    rw (p.out ∙ i ∙ o, p.cells room (i ∙ o))
+    (ap (λ (x : Found). with_outbox m (reset (with_cells m.outbox (stage_at f.place (advanced (block_count room x.length) x.cell.stage) cs)))) (sym t.is))

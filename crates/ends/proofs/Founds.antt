@@ -19,14 +19,12 @@ passed (Some c) Post p fits b h = sym (fits c b h)
 
 pub place_none : (p : Cell → Bool) (cs : List (Stored Cell)) → ((k : ℕ) → k < length cs → passes p (record_at k cs) ≡ false) → place_where p cs ≡ None
 place_none p [] h = refl
-place_none p (c ∷ cs) h =
-    ap (λ (b : Bool). cond b (Some 0) (later (place_where p cs))) (h 0 (omega arith)) ∙ ap later (place_none p cs (λ k l. h (suc k) (omega arith)))
+place_none p (c ∷ cs) h = rw (h 0 (omega arith)) (ap later (place_none p cs (λ k l. h (suc k) (omega arith))))
 
 pub place_some : (p : Cell → Bool) (cs : List (Stored Cell)) (i : ℕ) → ((k : ℕ) → k < i → passes p (record_at k cs) ≡ false) → passes p (record_at i cs) ≡ true → place_where p cs ≡ Some i
 place_some p [] i h w = cc
-place_some p (c ∷ cs) zero h w = ap (λ (b : Bool). cond b (Some 0) (later (place_where p cs))) w
-place_some p (c ∷ cs) (suc i) h w =
-    ap (λ (b : Bool). cond b (Some 0) (later (place_where p cs))) (h 0 (omega arith)) ∙ ap later (place_some p cs i (λ k l. h (suc k) (omega arith)) w)
+place_some p (c ∷ cs) zero h w = rw w
+place_some p (c ∷ cs) (suc i) h w = rw (h 0 (omega arith)) (ap later (place_some p cs i (λ k l. h (suc k) (omega arith)) w))
 
 -- the message that was found stands in the cells
 pub record There (i : ℕ) (cells : List (Stored Cell)) (f : Found) : Type 0 where
@@ -59,6 +57,7 @@ first_found p cs i r e there before = go (slice_get cs i) refl
   where
     place : place_where p cs ≡ Some i
     place = place_some p cs i (λ k l. before k (omega arith) l) there
+
     go : (o : Option (Stored Cell)) → slice_get cs i ≡ o → MatchOption r (place_where p cs ≡ None) (λ f. Finds (place_where p cs) cs f)
     go None q =
         let h : passes p (option_map (λ (c : Stored Cell). c.«record») None) ≡ true = subst (λ (o : Option (Stored Cell)). passes p (option_map (λ (c : Stored Cell). c.«record») o) ≡ true) q there in

@@ -1,5 +1,5 @@
 -- What a tick is to send, by the first unsettled message. Assumes nothing.
-use Rattle.std.proofs.Common.{◌≡◌, ℕ, zero, suc, ◌+◌, ◌<◌, Bool, true, false, cond, leb, List, [], ◌∷◌, length, Some, None, Option, MatchOption, sym, refl, ap, ◌∙◌, subst, arith}
+use Rattle.std.proofs.Common.{◌≡◌, ℕ, zero, suc, ◌+◌, ◌<◌, Bool, true, false, cond, leb, List, [], ◌∷◌, length, Some, None, Option, MatchOption, sym, refl, ap, ◌∙◌, subst, arith, zero-add}
 use Rattle.std.specs.List.{slice_get}
 use Rattle.stores.specs.Held.{Stored, stored}
 use Rattle.ends.specs.declared.types.Cell.{Cell}
@@ -28,23 +28,16 @@ plan_some m t [] i k c e h = cc
 plan_some m t (d ∷ cs) i zero c e h = go (unsettled d.«record».stage) refl
   where
     go : (b : Bool) → unsettled d.«record».stage ≡ b → plan_from m t i (d ∷ cs) ≡ plan_of_cell m t (0 + i) c.«record».stage
-    go false u = absurd (later_zero (current_place cs) (ap (λ (b : Bool). cond b (Some 0) (later (current_place cs))) (sym u) ∙ e))
-    go true u =
-        let k : d ≡ c = cc in
-        let n : i ≡ 0 + i = omega arith in
-        ap (λ (b : Bool). cond b (plan_of_cell m t i d.«record».stage) (plan_from m t (suc i) cs)) u ∙
-        ap (λ (x : Stored Cell). plan_of_cell m t i x.«record».stage) k ∙ ap (λ (j : ℕ). plan_of_cell m t j c.«record».stage) n
+    go false u = absurd (later_zero (current_place cs) (rw u at e))
+    go true u = let k : d ≡ c = cc in rw (u, k, zero-add i)
 plan_some m t (d ∷ cs) i (suc k) c e h = go (λ q. plan_some m t cs (suc i) k c q h) (unsettled d.«record».stage) refl
   where
     go : (current_place cs ≡ Some k → plan_from m t (suc i) cs ≡ plan_of_cell m t (k + suc i) c.«record».stage) → (b : Bool) → unsettled d.«record».stage ≡ b →
         plan_from m t i (d ∷ cs) ≡ plan_of_cell m t (suc k + i) c.«record».stage
-    go rest true u =
-        let q : Some 0 ≡ Some (suc k) = ap (λ (b : Bool). cond b (Some 0) (later (current_place cs))) (sym u) ∙ e in cc
+    go rest true u = let q = rw u at e in cc
     go rest false u =
         let n : k + suc i ≡ suc k + i = omega arith in
-        ap (λ (b : Bool). cond b (plan_of_cell m t i d.«record».stage) (plan_from m t (suc i) cs)) u ∙
-        rest (later_suc (current_place cs) k (ap (λ (b : Bool). cond b (Some 0) (later (current_place cs))) (sym u) ∙ e)) ∙
-        ap (λ (j : ℕ). plan_of_cell m t j c.«record».stage) n
+        rw (u, ← n) (rest (later_suc (current_place cs) k (rw u at e)))
 
 plan_found : (m : Model) (t : ℕ) (f : Found) → Finds (current_place m.outbox.cells) m.outbox.cells f → plan_of_cell m t f.place f.cell.stage ≡ plan_of m t
 plan_found m t f h =

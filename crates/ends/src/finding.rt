@@ -35,8 +35,10 @@ impl Sender {
         requires { F.IsAlwaysCallable test }
         ensures { (p : Cell → Bool) → ((c : Cell) (r : Bool) → F.post test c r → r ≡ p c) → MatchOption result (place_where p (held self.now.cells) ≡ None) (λ f. Finds (place_where p (held self.now.cells)) (held self.now.cells) f) }
     {
-        let place = (0..self.cells.len())
-            .find(|place| self.cells.record(*place).is_some_and(|cell| test(cell)))?;
+        let place = (0..self.cells.len()).find(|place| self
+            .cells
+            .record(*place)
+            .is_some_and(|cell| test(cell)))?;
         self.message_at(place)
     }
 

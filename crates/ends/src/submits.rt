@@ -17,11 +17,7 @@ impl<O: Direction<Other = I>, I: Direction<Other = O>> End<O, I> {
         if let Some(place) = illegal_place::<O>(label, text) {
             return Err(LinkFault::Text { place });
         }
-        let number = self
-            .sender
-            .numbered
-            .checked_add(1)
-            .ok_or(LinkFault::Full)?;
+        let number = self.sender.numbered.checked_add(1).ok_or(LinkFault::Full)?;
         let cell = Cell {
             number,
             label,
