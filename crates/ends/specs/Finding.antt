@@ -1,6 +1,6 @@
 -- Finding an outgoing message.
 -- Assumes nothing.
-use Rattle.std.specs.Prelude.{◌≡◌, ℕ, List, length, Some, Option}
+use Rattle.std.specs.Prelude.{◌≡◌, ℕ, List, length, Some, None, Option, MatchOption}
 use Rattle.std.specs.List.{slice_get}
 use Rattle.std.specs.Option.{option_map}
 use Rattle.stores.specs.Held.{Stored}
@@ -18,3 +18,7 @@ found_at i cells = option_map (found_in i) (slice_get cells i)
 pub record Finds (place : Option ℕ) (cells : List (Stored Cell)) (f : Found) : Type 0 where
   pub first : place ≡ Some f.place
   pub there : found_at f.place cells ≡ Some f
+
+-- what was looked for is found, if there is such a place
+abbrev pub FindsAny : Option ℕ → List (Stored Cell) → Option Found → Type 0
+FindsAny place cells r = MatchOption r (place ≡ None) (λ f. Finds place cells f)

@@ -48,10 +48,6 @@ BlockSent puts w m i a identifier (Err x) v v' = (v' ≡ v) × BlockRefused w m 
 abbrev pub acknowledged : Ways → Model → Model
 acknowledged w m = cond (current_out m.outbox.cells) (moved_on w m) m
 
--- the receiving half with another open part
-abbrev pub with_part : Inbox → Stored PartHead → Inbox
-with_part i p = record i { part = Some p }
-
 -- the part after a block that opens it, or continues another
 abbrev pub part_with : Ways → hearing.Block → Option (Stored PartHead) → Stored PartHead
 part_with w b None = hearing.opened_part w b

@@ -36,7 +36,7 @@ fn block_text<O: Direction>(text: &[u8], index: u8) -> &[u8]
     ensures value { result.now ≡ block_text O.Direction.text.room text.now index }
     ensures within { length result.now ≤ O.Direction.text.room }
 {
-    let start = (index as usize * O::room()).min(text.len());
+    let start = (usize::from(index) * O::room()).min(text.len());
     let end = (start + O::room()).min(text.len());
     &text[start..end]
 }
@@ -89,7 +89,7 @@ impl<O: Direction<Other = I>, I: Direction<Other = O>> End<O, I> {
             acknowledgment: self.owed(),
             label: &cell.label.0,
             identifier,
-            last: index as usize + 1 == count,
+            last: usize::from(index) + 1 == count,
             text: &whole,
         };
         send::<O, P>(&block, path)

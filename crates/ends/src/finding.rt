@@ -1,5 +1,5 @@
 // Finding an outgoing message.
-ghost use Rattle.std.specs.Prelude.{◌≡◌, None, MatchOption, Bool};
+ghost use Rattle.std.specs.Prelude.{◌≡◌, Bool};
 ghost use Rattle.stores.specs.Held.{held};
 ghost use Rattle.ends.specs.Sending.{place_where, current_place, place_of_number};
 
@@ -15,7 +15,7 @@ pub(crate) struct Found {
 }
 
 impl Sender {
-    ghost use Rattle.ends.specs.Finding.{found_at, Finds};
+    ghost use Rattle.ends.specs.Finding.{found_at, FindsAny};
 
     // The message at a place.
     fn message_at(&self, place: usize) -> Option<Found>
@@ -33,7 +33,7 @@ impl Sender {
     // The first message whose cell passes a test.
     fn first<F: Fn(Cell) -> bool>(&self, test: F) -> Option<Found>
         requires { F.IsAlwaysCallable test }
-        ensures { (p : Cell → Bool) → ((c : Cell) (r : Bool) → F.post test c r → r ≡ p c) → MatchOption result (place_where p (held self.now.cells) ≡ None) (λ f. Finds (place_where p (held self.now.cells)) (held self.now.cells) f) }
+        ensures { (p : Cell → Bool) → ((c : Cell) (r : Bool) → F.post test c r → r ≡ p c) → FindsAny (place_where p (held self.now.cells)) (held self.now.cells) result }
     {
         let place = (0..self.cells.len()).find(|place| self
             .cells
@@ -44,14 +44,14 @@ impl Sender {
 
     // The first unsettled message.
     pub(crate) fn current(&self) -> Option<Found>
-        ensures { MatchOption result (current_place (held self.now.cells) ≡ None) (λ f. Finds (current_place (held self.now.cells)) (held self.now.cells) f) }
+        ensures { FindsAny (current_place (held self.now.cells)) (held self.now.cells) result }
     {
         self.first(|cell| cell.stage.is_unsettled())
     }
 
     // The first unsettled message that has the number.
     pub(crate) fn find(&self, number: u64) -> Option<Found>
-        ensures { MatchOption result (place_of_number number (held self.now.cells) ≡ None) (λ f. Finds (place_of_number number (held self.now.cells)) (held self.now.cells) f) }
+        ensures { FindsAny (place_of_number number (held self.now.cells)) (held self.now.cells) result }
     {
         self.first(|cell| cell.number == number && cell.stage.is_unsettled())
     }

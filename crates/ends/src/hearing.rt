@@ -1,11 +1,11 @@
 // What a block heard is to the receiving half.
-ghost use Rattle.std.specs.Prelude.{◌≡◌, ◌<◌, true, ◌&&◌, [], cond, length, drop, Some, nat_le};
+ghost use Rattle.std.specs.Prelude.{◌≡◌, ◌<◌, true, ◌&&◌, [], cond, length, drop, nat_le};
 ghost use Rattle.stores.specs.Held.{stored, held};
 ghost use Rattle.stores.specs.Texts.{octets_of};
 ghost use Rattle.ends.specs.Ends.{model, inbox_of, part_of, block_of};
 ghost use Rattle.ends.specs.Hearing.{again, is_next, owing, lengthened, joining_of, accepted_part};
 ghost use Rattle.ends.specs.Calls.{BlockHeard};
-ghost use Rattle.ends.specs.Steps.{with_part, part_with, PartHeard};
+ghost use Rattle.ends.specs.Steps.{part_with, PartHeard};
 ghost use Rattle.ends.specs.Model.{ways};
 
 use crate::end::{End, Receiver};
@@ -21,32 +21,23 @@ impl Receiver {
         self.owed = true;
     }
 
-    // Gives the open part a head, and adds characters to its text, which begins anew where the part opens.
-    fn lengthen(&mut self, opens: bool, head: PartHead, more: &[u8])
-        ensures held { inbox_of self.new ≡ with_part (inbox_of self.old) (stored head (lengthened (cond opens [] (octets_of self.old.text)) more.now)) }
-        ensures part { self.new.part ≡ Some head }
-        ensures text { octets_of self.new.text ≡ lengthened (cond opens [] (octets_of self.old.text)) more.now }
-        ensures waiting { held self.new.waiting ≡ held self.old.waiting }
+    // Accepts a block with its characters, as the newest of a part with a head: the part opens or goes on, and completes and waits if the block is a last one.
+    fn accept(&mut self, block: HeardBlock<'_>, opens: bool, head: PartHead, more: &[u8])
+        requires { block.last ≡ true → length (held self.old.waiting) < 4 }
+        ensures { inbox_of self.new ≡ accepted_part (inbox_of self.old) (block_of block.entry) (stored head (lengthened (cond opens [] (octets_of self.old.text)) more.now)) }
     {
         if opens {
             self.text.clear();
         }
         let _ = self.text.append(more);
-        self.part = Some(head);
-    }
-
-    // Accepts the newest block of the open part: the part goes on, or it completes and waits.
-    fn accept(&mut self, block: HeardBlock<'_>, head: PartHead)
-        requires part { self.old.part ≡ Some head }
-        requires room { block.last ≡ true → length (held self.old.waiting) < 4 }
-        ensures { inbox_of self.new ≡ accepted_part (inbox_of self.old) (block_of block.entry) (stored head (octets_of self.old.text)) }
-    {
-        self.accepted = Some(block.identifier);
-        self.owed = true;
         if block.last {
             let _ = self.waiting.push(head.label, self.text.as_slice());
             self.part = None;
+        } else {
+            self.part = Some(head);
         }
+        self.accepted = Some(block.identifier);
+        self.owed = true;
     }
 
     // Whether a block cannot be taken: it is a last one and four messages wait.
@@ -110,13 +101,12 @@ impl<O: Direction<Other = I>, I: Direction<Other = O>> End<O, I> {
             blocks: blocks + 1,
         };
         let more = message_part::<I>(block.text);
-        self.receiver.lengthen(continued.is_none(), head, more);
-        self.receiver.accept(block, head);
-        if block.last {
-            Ok(Heard::Complete)
+        self.receiver.accept(block, continued.is_none(), head, more);
+        Ok(if block.last {
+            Heard::Complete
         } else {
-            Ok(Heard::Part)
-        }
+            Heard::Part
+        })
     }
 
     // Hears a message block.

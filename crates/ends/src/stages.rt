@@ -31,7 +31,7 @@ impl Stage {
     fn is_last_out(self, blocks: usize) -> bool
         ensures { result ≡ last_out blocks self }
     {
-        matches!(self, Stage::Unsettled { acknowledged, out } if out && acknowledged as usize + 1 == blocks)
+        matches!(self, Stage::Unsettled { acknowledged, out } if out && usize::from(acknowledged) + 1 == blocks)
     }
 
     // What a message of so many blocks comes to that is withdrawn: in doubt if its last block has gone out, else not delivered.
@@ -50,7 +50,7 @@ impl Stage {
         ensures { result ≡ advanced blocks self }
     {
         match self {
-            Stage::Unsettled { acknowledged, .. } if acknowledged as usize + 1 == blocks => {
+            Stage::Unsettled { acknowledged, .. } if usize::from(acknowledged) + 1 == blocks => {
                 Stage::Settled(Outcome::Delivered)
             }
             Stage::Unsettled { acknowledged, .. } => Stage::Unsettled {

@@ -15,7 +15,8 @@ impl<O: Direction<Other = I>, I: Direction<Other = O>> End<O, I> {
     fn is_bound(&self, stage: Stage) -> bool
         ensures { result ≡ too_many_spent (ways O.Direction I.Direction) (model self.now) stage }
     {
-        stage.is_begun() && (O::size() as u16).saturating_sub(1) < (self.sender.spent as u16) + 2
+        stage.is_begun()
+            && u16::from(O::size()).saturating_sub(1) < u16::from(self.sender.spent) + 2
     }
 
     // Settles the unsettled message that has the number, without waiting for it to be delivered.
