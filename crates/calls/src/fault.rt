@@ -2,10 +2,11 @@
 ghost use Rattle.std.specs.Prelude.{◌≡◌};
 ghost use Rattle.calls.specs.declared.fault.LinkFault.TheVariants.{Block, Air};
 
+use crate::types::Setting;
 use blocks::BlockFault;
 use paths::PathFault;
 
-#[derive(Clone, Copy)]
+#[derive(Clone, Copy, PartialEq, Eq, Debug)]
 pub enum LinkFault {
     // what the path below refuses
     Air(PathFault),
@@ -23,8 +24,8 @@ pub enum LinkFault {
     Seventeenth,
     // a message would complete while four inbound cells are taken
     Crowded,
-    // a setting is outside its limits; its number
-    Setting { number: u8 },
+    // a setting is outside its limits
+    Setting(Setting),
     // the time is earlier than the last one taken, or too late
     Time,
     // label or text is not legal; the place counts label and text as one string
@@ -50,5 +51,42 @@ impl From<PathFault> for LinkFault {
 
     fn from(fault: PathFault) -> LinkFault {
         LinkFault::Air(fault)
+    }
+}
+
+impl LinkFault {
+    ghost use Rattle.calls.specs.Faults.{number_of, place_of};
+
+    // The refusal's number; a block's or a path's keeps its own.
+    pub fn number(&self) -> u8
+        ensures { result ≡ number_of self.now }
+    {
+        match self {
+            LinkFault::Block(fault) => fault.number(),
+            LinkFault::Air(PathFault::BadLength) | LinkFault::Buffer => 1,
+            LinkFault::Air(PathFault::NothingWaits) | LinkFault::Nothing => 2,
+            LinkFault::Address => 9,
+            LinkFault::Stray => 10,
+            LinkFault::Seventeenth => 11,
+            LinkFault::Crowded => 12,
+            LinkFault::Setting(_) => 13,
+            LinkFault::Time => 14,
+            LinkFault::Text { .. } => 15,
+            LinkFault::Full => 16,
+            LinkFault::Unknown => 17,
+            LinkFault::Spent => 18,
+        }
+    }
+
+    // Its place: of a block's refusal in the string, of a setting its number, of label and text in the two as one string.
+    pub fn place(&self) -> Option<usize>
+        ensures { result ≡ place_of self.now }
+    {
+        match self {
+            LinkFault::Block(fault) => fault.place(),
+            LinkFault::Setting(setting) => Some(usize::from(setting.number())),
+            LinkFault::Text { place } => Some(*place),
+            _ => None,
+        }
     }
 }
