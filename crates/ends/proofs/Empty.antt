@@ -1,5 +1,5 @@
 -- A store that holds no message, and the waits of good settings. Assumes nothing.
-use Rattle.std.proofs.Common.{◌≡◌, ℕ, ◌≤◌, false, leb, List, [], ◌∷◌, length, None, refl}
+use Rattle.std.proofs.Common.{◌≡◌, ◌≤◌, leb, List, [], ◌∷◌, None, refl}
 use Rattle.stores.specs.Held.{Stored, text_at}
 use Rattle.calls.specs.declared.types.Settings.{Settings}
 use Rattle.calls.specs.declared.types.Setting.TheVariants.{Waits, Contact}
