@@ -2,8 +2,9 @@
 -- eight steps can be read off a table of 256 entries.
 -- Assumes nothing.
 use Rattle.std.proofs.Common.{◌≡◌, ℕ, zero, suc, ◌*◌, ◌/◌, ◌%◌, ◌^◌, ◌<◌, Bool, true, false, cond, eqb, sym, refl, ap, ◌∙◌, ap₂, mod-lt, zero-lt-suc, mul-one, arith, pow_pos}
-use lib.Bits.{bit_xor, xor_assoc, xor_comm, xor_mod, xor_shifted, xor_shr, xor_zero_r, shifted_even, shifted_half}
-use lib.Pow.{split}
+use Rattle.std.specs.Int.Bits.{bit_xor, xor_assoc, xor_shifted, xor_zero_r, shifted_even, shifted_half}
+use Rattle.std.proofs.Math.Pow.{split}
+use Rattle.std.proofs.lemmas.Nat.{xor_comm, xor_mod, xor_shr}
 use Rattle.octets.specs.Check.{shifted, steps, advance}
 
 -- what a step XORs in, by the bit that falls out
