@@ -13,8 +13,7 @@ impl<'a> Block<'a> {
         ensures { result.now ≡ (head_of (fields_given self.now)).address }
     {
         match self {
-            Block::Response { address, .. } => *address,
-            Block::Message { address, .. } => *address,
+            Block::Response { address, .. } | Block::Message { address, .. } => *address,
         }
     }
 
@@ -22,8 +21,8 @@ impl<'a> Block<'a> {
         ensures { named result ≡ (head_of (fields_given self.now)).acknowledgment }
     {
         match self {
-            Block::Response { acknowledgment, .. } => *acknowledgment,
-            Block::Message { acknowledgment, .. } => *acknowledgment,
+            Block::Response { acknowledgment, .. } | Block::Message { acknowledgment, .. } =>
+                *acknowledgment,
         }
     }
 
@@ -31,8 +30,7 @@ impl<'a> Block<'a> {
         ensures { result.0 ≡ (head_of (fields_given self.now)).identifier }
     {
         match self {
-            Block::Response { identifier, .. } => *identifier,
-            Block::Message { identifier, .. } => *identifier,
+            Block::Response { identifier, .. } | Block::Message { identifier, .. } => *identifier,
         }
     }
 
