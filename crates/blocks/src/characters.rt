@@ -18,6 +18,9 @@ pub const DEL: u8 = 0x7F;
 
 pub const MODE: u8 = b'2';
 
+// The label of a general response.
+pub(crate) const RESPONSE_LABEL: [u8; 2] = [0x5F, 0x7F];
+
 // A–Z, 0–9 or a hyphen.
 fn is_address(character: u8) -> bool
     ensures { result ≡ is_address character }

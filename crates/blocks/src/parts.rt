@@ -3,10 +3,8 @@ ghost use Rattle.std.specs.Prelude.{◌≡◌};
 ghost use Rattle.blocks.specs.Fields.{fields_given, head_of, label_of, last_of, text_of, named};
 
 use crate::block::Block;
+use crate::characters::RESPONSE_LABEL;
 use directions::Identifier;
-
-// The label of a general response.
-const RESPONSE_LABEL: [u8; 2] = [0x5F, 0x7F];
 
 impl<'a> Block<'a> {
     pub fn address(&self) -> &'a [u8; 7]
