@@ -16,7 +16,7 @@ use Rattle.blocks.specs.Fields.{Fields, response, message, fields_read, written,
 use Rattle.blocks.specs.Faults.{number_of, place_of}
 use Rattle.blocks.specs.Legal.{Way, Sound}
 use Rattle.blocks.specs.Reading.{Refusal, FirstUnlike, Like, ReadAs, Parts}
-use Rattle.blocks.specs.Places.{ch, Kept, possible, is_response, acknowledgment_of, FrameKept, HeadBroken, LabelIs, HeadIs, RestBroken, RestIs}
+use Rattle.blocks.specs.Places.{ch, Kept, possible, is_response, FrameKept, HeadBroken, LabelIs, HeadIs, RestBroken, RestIs}
 use Rattle.blocks.proofs.Shapes.{Lawful, Shaped, head_at, fields_if, fields_at}
 use Rattle.blocks.proofs.Sounds.{shaped_fielded}
 use Rattle.blocks.proofs.Unlike.{head_any, head_unlike, head_some, impossible_unlike, rest_unlike}

@@ -1,5 +1,5 @@
 -- What the test of STX, text and suffix tells of the places from 13 on. Assumes nothing.
-use Rattle.std.proofs.Common.{◌≡◌, ℕ, ◌+◌, ◌-◌, ◌<◌, ◌≤◌, Bool, true, false, ◌||◌, eqb, List, length, take, drop, Some, None, Option, sym, refl, ◌∙◌, subst, inl, inr, arith, lit≤, eq-eqb}
+use Rattle.std.proofs.Common.{◌≡◌, ℕ, ◌+◌, ◌-◌, ◌<◌, ◌≤◌, true, false, ◌||◌, eqb, List, length, take, drop, Some, None, Option, refl, ◌∙◌, subst, inl, inr, arith, eq-eqb}
 use Rattle.std.proofs.lemmas.Bool.{cases_lt}
 use Rattle.blocks.specs.Legal.{Way, at, text_allows}
 use Rattle.blocks.specs.Places.{ch, Kept, place_rule, BrokenAt}

@@ -2,14 +2,14 @@
 use Rattle.std.proofs.Common.{◌≡◌, ℕ, zero, suc, ◌+◌, ◌-◌, ◌<◌, ◌≤◌, Bool, true, false, cond, ◌&&◌, ◌||◌, eqb, ltb, leb, List, [], ◌∷◌, ◌++◌, map, length, Some, None, sym, refl, ap, ◌∙◌, subst, inl, inr, arith, lit<, lit≤}
 use Rattle.std.specs.List.{range_with_len}
 use Rattle.std.proofs.lemmas.List.FromFn.{length-map-range_with_len, get_or-map-range_with_len}
-use Rattle.std.proofs.lemmas.Bool.{eqb-true, and_parts, cases_eq, ne_eqb, lt-ltb, le-ltb, leb-true, ltb-true}
+use Rattle.std.proofs.lemmas.Bool.{eqb-true, and_parts, cases_eq, ne_eqb, leb-true, ltb-true}
 use Rattle.std.proofs.lemmas.Bool.Decides.{nat_tests}
 use Rattle.directions.specs.Rings.{RingRule, member}
 use Rattle.directions.specs.TextRules.{TextRule}
 use Rattle.blocks.specs.Fields.{response, message, headed, tailed, laid, enclosed}
 use Rattle.octets.specs.Parity.{octet}
 use Rattle.blocks.specs.Legal.{Way, at, acknowledges, is_label, text_allows, text_length, head_allows, Sound, TextKept, Legal}
-use Rattle.blocks.specs.Places.{Kept, place_rule, possible, is_response, acknowledgment_of}
+use Rattle.blocks.specs.Places.{Kept, possible, is_response, acknowledgment_of}
 use Rattle.blocks.proofs.Steps.{text_rule, suffix_rule, start_rule}
 use Rattle.blocks.proofs.Strings.{chars, string_of}
 use Rattle.blocks.proofs.Shapes.{Lawful, Shaped, twelve, head_at, fields_if, fields_at, head_laid, all_laid, tail_laid}

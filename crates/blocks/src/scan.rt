@@ -1,5 +1,5 @@
 // The first character of a field that may not stand where it does.
-ghost use Rattle.std.specs.Prelude.{◌≡◌};
+ghost use Rattle.std.specs.Prelude.{◌≡◌, length};
 ghost use Rattle.blocks.specs.Legal.{address_allows, text_allows};
 ghost use Rattle.blocks.specs.Scans.{FirstFault};
 
@@ -26,7 +26,10 @@ pub(crate) fn first_fault<F: Fn(usize, u8, u8) -> bool>(
 
 // The index of the first character that may not stand in an address.
 pub fn address_fault(address: &[u8; 7]) -> Option<usize>
-    ensures { FirstFault (λ i before c allowed. allowed ≡ address_allows i before c) MODE address.now result }
+    ensures fault { FirstFault (λ i before c allowed. allowed ≡ address_allows i before c) MODE address.now result }
+
+    // A caller knows the length of an array that another call answered only by a clause.
+    ensures long { length address.now ≡ 7 }
 {
     first_fault(MODE, address, address_allows)
 }

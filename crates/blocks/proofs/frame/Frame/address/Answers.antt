@@ -1,4 +1,4 @@
-use Rattle.std.proofs.Common.{◌≡◌, ℕ, ◌+◌, ◌<◌, length, None, Some, refl, ◌∙◌, rules, arith}
+use Rattle.std.proofs.Common.{◌+◌, ◌<◌, None, Some, refl, ◌∙◌, rules, arith}
 use Rattle.blocks.specs.Legal.{at, address_allows}
 use Rattle.blocks.specs.Scans.{FirstFault}
 use Rattle.blocks.proofs.Steps.{address_rule}

@@ -1,5 +1,4 @@
-use Rattle.std.proofs.Common.{◌≡◌, ℕ, ◌+◌, ◌-◌, ◌<◌, true, false, ◌||◌, eqb, List, length, take, drop, Some, None, Option, sym, refl, inl, rules, arith}
-use Rattle.std.proofs.lemmas.Bool.Decides.{nat_tests}
+use Rattle.std.proofs.Common.{◌≡◌, ℕ, ◌+◌, ◌-◌, true, List, length, take, drop, Some, None, Option, refl, inl, rules, arith}
 use Rattle.blocks.specs.Legal.{Way, at, text_allows}
 use Rattle.blocks.specs.Places.{possible}
 use Rattle.blocks.specs.Scans.{FirstFault}
