@@ -1,5 +1,5 @@
 -- The first place at which no legal block agrees is the first that breaks its rule. Assumes nothing.
-use Rattle.std.proofs.Common.{◌≡◌, ℕ, zero, suc, ◌+◌, ◌-◌, ◌<◌, ◌≤◌, Bool, true, false, cond, ◌&&◌, ◌||◌, eqb, ltb, leb, List, ◌∷◌, map, length, take, sym, refl, ap, ◌∙◌, subst, inl, inr, arith, lit≤}
+use Rattle.std.proofs.Common.{◌≡◌, ℕ, zero, suc, ◌+◌, ◌-◌, ◌<◌, ◌≤◌, Bool, true, false, cond, ◌||◌, eqb, ltb, leb, List, ◌∷◌, map, length, take, sym, refl, ap, ◌∙◌, subst, inl, inr, arith, lit≤}
 use Rattle.std.specs.List.{range_with_len}
 use Rattle.std.proofs.lemmas.List.FromFn.{length-map-range_with_len, get_or-map-range_with_len}
 use Rattle.std.proofs.lemmas.List.{ext_get_or}
@@ -12,6 +12,7 @@ use Rattle.blocks.specs.Fields.{Fields, laid, enclosed, written}
 use Rattle.blocks.specs.Legal.{Way, at, address_allows, text_allows, Legal}
 use Rattle.blocks.specs.Reading.{FirstUnlike, Like}
 use Rattle.blocks.specs.Places.{ch, Kept, place_rule, rest_rule, possible, is_response, Octets, BrokenAt}
+use Rattle.blocks.proofs.Steps.{usable}
 use Rattle.blocks.proofs.Strings.{string_of, string_length, same_character, front_at}
 use Rattle.blocks.proofs.Shapes.{Lawful, Shaped, twelve}
 use Rattle.blocks.proofs.Sounds.{shaped_legal}
@@ -188,16 +189,6 @@ module _ (w : Way) (l : Lawful w) where
         some = λ j a u. absurd (omega arith);
       }
 
-      usable : possible w response (length s) ≡ true → (length s ≡ 17 → ⊥) → 18 < length s
-      usable f ne = go response f
-        where
-          go : (b : Bool) → possible w b (length s) ≡ true → 18 < length s
-          go true e = absurd (ne (eqb-true (length s) 17 e))
-          go false e =
-              let z : eqb (length s) 17 ≡ false = ne_eqb (length s) 17 ne in
-              let h : (ltb 18 (length s) && leb (18 + w.text.opening) (length s)) ≡ true = rw z at e in
-              ltb-true 18 (length s) (and_parts (ltb 18 (length s)) (leb (18 + w.text.opening) (length s)) h).0
-
       pub rest_unlike : possible w response (length s) ≡ true → (p : ℕ) → p < length s - 3 → BrokenAt w (length s) s 13 p → FirstUnlike (Like w s) s 13 p
       rest_unlike f p u b = record {
         from = b.from;
@@ -220,7 +211,7 @@ module _ (w : Way) (l : Lawful w) where
               least = long;
               most = most;
               fits = subst (λ (z : Bool). possible w z n ≡ true) r f;
-              kept = filled_kept w l s start os j wi n (usable f) kept;
+              kept = filled_kept w l s start os j wi n (usable w response n f) kept;
             } in (
               string_of g n,
               record {

@@ -74,7 +74,7 @@ module _ (w : Ways) (P : Paired w) (some_room : 0 < w.out.text.room) (m : Model)
     | inr N ↦ rest_sound m.inbox.owed (subst (λ (y : Plan). Unsound w m y n p) (N.plan m time 0) h)
   ]
     where
-      by_due : (F : First w.out.text.room 1 m.outbox.cells) (b : Bool) → Unsound w m (cond b (plan.Again (0 + F.place) F.acknowledged) (otherwise m.inbox.owed)) n p → ⊥
+      by_due : (F : First w.out.text.room 1 m.outbox.cells) (b : Bool) → Unsound w m (cond b (plan.Again (record { place = 0 + F.place; index = F.acknowledged })) (otherwise m.inbox.owed)) n p → ⊥
       by_due F true u = let I = last_is w.out.own P.out.own.many S.put in first_sound F (0 + F.place) (zero-add F.place) (last_identifier w.out.own m.outbox) I.0 I.1 u.0 u.1 u.2
       by_due F false u = rest_sound m.inbox.owed u
 

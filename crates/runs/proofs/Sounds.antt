@@ -15,6 +15,7 @@ use Rattle.blocks.specs.Legal.{Way, at, address_allows, acknowledges, is_text, l
 use Rattle.blocks.specs.Reading.{pick}
 use Rattle.writing.specs.Writing.{Refusal, HeadBad, HeadGood, TextBad}
 use Rattle.calls.specs.declared.types.Settings.{Settings}
+use Rattle.calls.specs.declared.types.Setting.TheVariants.{Registration, Originator, Flight}
 use Rattle.stores.specs.Held.{Stored}
 use Rattle.ends.specs.declared.types.Cell.{Cell}
 use Rattle.ends.specs.Model.{Ways, Model}
@@ -133,13 +134,13 @@ flight_all r e i h = go i h
 -- settings within their limits, character by character
 module _ (s : Settings) (A : Accepted s) where
   address_at : (i : ℕ) → i < 7 → address_allows i (at (50 ∷ s.registration) i) (at s.registration i) ≡ true
-  address_at i h = address_all s.registration (A.good 1 (omega arith) (omega arith)) i h
+  address_at i h = address_all s.registration (A.good Registration) i h
 
   flight_at : (i : ℕ) → i < 6 → is_letter_or_digit (slice_index s.flight i) ≡ true
-  flight_at i h = flight_all s.flight (A.good 3 (omega arith) (omega arith)) i h
+  flight_at i h = flight_all s.flight (A.good Flight) i h
 
   letter : is_letter s.originator ≡ true
-  letter = A.good 2 (omega arith) (omega arith)
+  letter = A.good Originator
 
 -- the head of a block, place by place
 module _ (w : Way) (f : Fields) (address : (i : ℕ) → i < 7 → address_allows i (at (50 ∷ (head_of f).address) i) (at (head_of f).address i) ≡ true)

@@ -218,7 +218,7 @@ module _ (w : Ways) (L : WayLaws w.out) (inn : Direction) (x : w.out.other ≡ w
         as_block e u = subst (λ (y : Ticked). Served w (outward w m.settings.originator) inn m.settings.registration told m m' i o' (tick time draw (Ok y) t (block_put (Ok y) m)) (law.an_end (sender g c ph pt s) (receiver a part ms) owed) ps qs) (sym e) u
 
         due_or_not : (F : First w.out.text.room 1 m.outbox.cells) → F.gone ≡ true → (b : Bool) → leb m.clock.due time ≡ b →
-            Sends (Adds t) w m (cond b (plan.Again (0 + F.place) F.acknowledged) (otherwise m.inbox.owed)) time draw r m' o o' →
+            Sends (Adds t) w m (cond b (plan.Again (record { place = 0 + F.place; index = F.acknowledged })) (otherwise m.inbox.owed)) time draw r m' o o' →
             Served w (outward w m.settings.originator) inn m.settings.registration told m m' i o' (tick time draw (Ok r) t (block_put (Ok r) m)) (law.an_end (sender g c ph pt s) (receiver a part ms) owed) ps qs
         due_or_not F f true d u = as_block u.0 (again_serves F f d t (0 + F.place) (zero-add F.place) u.1 u.2)
         due_or_not F f false d u = rest_serves A S R (subst (λ (y : Bool). Quiet y (sender g c ph pt s)) (sym d)
