@@ -1,9 +1,10 @@
 -- What a tick is to send is sound, so no tick is refused for its fields. Assumes nothing.
-use Rattle.std.proofs.Common.{◌≡◌, ℕ, zero, suc, ◌+◌, ◌-◌, ◌*◌, ◌/◌, ◌<◌, ◌≤◌, Bool, true, false, cond, ◌&&◌, ◌||◌, eqb, ltb, leb, List, ◌∷◌, ◌++◌, length, drop, Some, None, sym, refl, ap, ◌∙◌, subst, inl, inr, arith, eq-eqb, lt-ltb, le-leb, ltb-true, ltb-false, length-append, suc-mul}
+use Rattle.std.proofs.Common.{◌≡◌, ℕ, zero, suc, ◌+◌, ◌-◌, ◌*◌, ◌/◌, ◌<◌, ◌≤◌, Bool, true, false, cond, ◌&&◌, ◌||◌, eqb, ltb, leb, List, [], ◌∷◌, ◌++◌, length, drop, Some, None, sym, refl, ap, ◌∙◌, subst, inl, inr, arith, eq-eqb, lt-ltb, le-leb, ltb-true, ltb-false, length-append, suc-mul}
 use mathlib.Core.Option.{Option}
 use borrow.Author.Tests.{clash, eqb-false}
 use Rattle.std.specs.declared.option.Option as std
 use Rattle.std.specs.Prelude.{slice_index}
+use Rattle.std.specs.List.{list_all}
 use Rattle.std.proofs.Math.Nat.{le-div_iff_mul-le}
 use Rattle.std.proofs.Math.Bool.{or-true}
 use Rattle.std.proofs.lemmas.Bool.{and_from}
@@ -33,7 +34,7 @@ right : (a b : Bool) → (a && b) ≡ true → b ≡ true
 right true b e = e
 right false b e = absurd (clash e)
 
--- the tests of an address from a character on, and those of a flight
+-- the tests of an address from a character on
 abbrev address6 : List ℕ → Bool
 address6 r = address_allows 6 (at r 5) (at r 6)
 
@@ -54,24 +55,6 @@ address1 r = address_allows 1 (at r 0) (at r 1) && address2 r
 
 abbrev address0 : List ℕ → Bool
 address0 r = address_allows 0 (50) (at r 0) && address1 r
-
-abbrev flight5 : List ℕ → Bool
-flight5 r = is_letter_or_digit (at r 5)
-
-abbrev flight4 : List ℕ → Bool
-flight4 r = is_letter_or_digit (at r 4) && flight5 r
-
-abbrev flight3 : List ℕ → Bool
-flight3 r = is_letter_or_digit (at r 3) && flight4 r
-
-abbrev flight2 : List ℕ → Bool
-flight2 r = is_letter_or_digit (at r 2) && flight3 r
-
-abbrev flight1 : List ℕ → Bool
-flight1 r = is_letter_or_digit (at r 1) && flight2 r
-
-abbrev flight0 : List ℕ → Bool
-flight0 r = is_letter_or_digit (at r 0) && flight1 r
 
 address_all : (r : List ℕ) → address0 r ≡ true → (i : ℕ) → i < 7 → address_allows i (at (50 ∷ r) i) (at r i) ≡ true
 address_all r e i h = go i h
@@ -104,32 +87,11 @@ address_all r e i h = go i h
     go (suc (suc (suc (suc (suc (suc zero)))))) h = e6
     go (suc (suc (suc (suc (suc (suc (suc k))))))) h = absurd (omega (arith, h))
 
-flight_all : (r : List ℕ) → flight0 r ≡ true → (i : ℕ) → i < 6 → is_letter_or_digit (slice_index r i) ≡ true
-flight_all r e i h = go i h
-  where
-    e1 : flight1 r ≡ true
-    e1 = right (is_letter_or_digit (at r 0)) (flight1 r) e
-
-    e2 : flight2 r ≡ true
-    e2 = right (is_letter_or_digit (at r 1)) (flight2 r) e1
-
-    e3 : flight3 r ≡ true
-    e3 = right (is_letter_or_digit (at r 2)) (flight3 r) e2
-
-    e4 : flight4 r ≡ true
-    e4 = right (is_letter_or_digit (at r 3)) (flight4 r) e3
-
-    e5 : flight5 r ≡ true
-    e5 = right (is_letter_or_digit (at r 4)) (flight5 r) e4
-
-    go : (i : ℕ) → i < 6 → is_letter_or_digit (slice_index r i) ≡ true
-    go zero h = left (is_letter_or_digit (at r 0)) (flight1 r) e
-    go (suc zero) h = left (is_letter_or_digit (at r 1)) (flight2 r) e1
-    go (suc (suc zero)) h = left (is_letter_or_digit (at r 2)) (flight3 r) e2
-    go (suc (suc (suc zero))) h = left (is_letter_or_digit (at r 3)) (flight4 r) e3
-    go (suc (suc (suc (suc zero)))) h = left (is_letter_or_digit (at r 4)) (flight5 r) e4
-    go (suc (suc (suc (suc (suc zero))))) h = e5
-    go (suc (suc (suc (suc (suc (suc k)))))) h = absurd (omega (arith, h))
+-- a test of each element is one of the element at an index
+each_at : (p : ℕ → Bool) (xs : List ℕ) → list_all p xs ≡ true → (i : ℕ) → i < length xs → p (slice_index xs i) ≡ true
+each_at p [] e i h = absurd (omega (arith, h))
+each_at p (x ∷ xs) e zero h = left (p x) (list_all p xs) e
+each_at p (x ∷ xs) e (suc i) h = each_at p xs (right (p x) (list_all p xs) e) i (omega (arith, h))
 
 -- settings within their limits, character by character
 module _ (s : Settings) (A : Accepted s) where
@@ -137,7 +99,7 @@ module _ (s : Settings) (A : Accepted s) where
   address_at i h = address_all s.registration (A.good Registration) i h
 
   flight_at : (i : ℕ) → i < 6 → is_letter_or_digit (slice_index s.flight i) ≡ true
-  flight_at i h = flight_all s.flight (A.good Flight) i h
+  flight_at i h = each_at is_letter_or_digit s.flight (A.good Flight) i (let e = A.six in omega (arith, e, h))
 
   letter : is_letter s.originator ≡ true
   letter = A.good Originator
