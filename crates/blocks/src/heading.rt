@@ -1,6 +1,7 @@
 // Reading the head of a block, places 1 to 12.
 ghost use Rattle.std.specs.Prelude.{◌≡◌, ◌+◌, ◌≤◌, length, take, drop};
 ghost use Rattle.blocks.specs.Places.{AddressTested, AcknowledgmentRead, LabelRead, Heading};
+ghost use Rattle.blocks.specs.Legal.{way};
 
 use crate::characters::{MODE, NAK, address_allows, is_label};
 use crate::fault::BlockFault;
@@ -62,7 +63,7 @@ fn part<const N: usize>(string: &[u8], start: usize) -> &[u8; N]
 // Reads the head. The first field that fails ends the reading.
 pub(crate) fn read_head<'a, D: Direction>(string: &'a [u8]) -> Result<HeadRead<'a>, BlockFault>
     requires { 17 ≤ length string.now }
-    ensures { Heading (record { own = D.Ring.ring; other = D.Other.Ring.ring; text = D.Direction.text }) string.now result }
+    ensures { Heading (way D.Direction D.Other.Ring.ring) string.now result }
 {
     let MODE = character_of(string[1]) else {
         return Err(BlockFault::Head { place: 1 });

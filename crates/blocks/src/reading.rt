@@ -2,6 +2,7 @@
 ghost use Rattle.std.specs.Prelude.{◌≡◌, ◌-◌, ◌≤◌, length, take, drop};
 ghost use Rattle.blocks.specs.Reading.{Reads};
 ghost use Rattle.blocks.specs.Places.{Assembled};
+ghost use Rattle.blocks.specs.Legal.{way};
 
 use crate::block::Block;
 use crate::characters::ETX;
@@ -59,7 +60,7 @@ fn assembled<'a>(head: HeadRead<'a>, string: &'a [u8]) -> Block<'a>
 
 // Reads a string as a block of the direction D: the block, whose parts are parts of the string, or the first rule that it breaks.
 pub fn read<'a, D: Direction>(string: &'a [u8]) -> Result<Block<'a>, BlockFault>
-    ensures { Reads (record { own = D.Ring.ring; other = D.Other.Ring.ring; text = D.Direction.text }) string.now result }
+    ensures { Reads (way D.Direction D.Other.Ring.ring) string.now result }
 {
     test_frame(string)?;
     let head = read_head::<D>(string)?;

@@ -2,6 +2,7 @@
 ghost use Rattle.std.specs.Prelude.{◌≡◌, ℕ, suc, ◌+◌, ◌-◌, ◌<◌, ◌≤◌, length};
 ghost use Rattle.blocks.specs.Legal.{Way};
 ghost use Rattle.blocks.specs.Places.{possible, rest_rule, RestTested};
+ghost use Rattle.blocks.specs.Legal.{way};
 
 use crate::characters::{ETB, ETX, STX, text_allows};
 use directions::Direction;
@@ -9,7 +10,7 @@ use octets::character_of;
 
 // Whether a response, or a message block, may have so many octets.
 fn is_possible<D: Direction>(response: bool, length: usize) -> bool
-    ensures { result ≡ possible (record { own = D.Ring.ring; other = D.Other.Ring.ring; text = D.Direction.text }) response length }
+    ensures { result ≡ possible (way D.Direction D.Other.Ring.ring) response length }
 {
     let opening = D::opening_length();
     if response {
@@ -24,7 +25,7 @@ fn is_possible<D: Direction>(response: bool, length: usize) -> bool
 // Whether a character may stand at a place of the rest, after the one before.
 fn rest_allows<D: Direction>(length: usize, place: usize, before: u8, character: u8) -> bool
     requires { (17 ≤ length) × (13 ≤ place) }
-    ensures { result ≡ rest_rule (record { own = D.Ring.ring; other = D.Other.Ring.ring; text = D.Direction.text }) length place before character }
+    ensures { result ≡ rest_rule (way D.Direction D.Other.Ring.ring) length place before character }
 {
     if length == 17 {
         character == ETX
@@ -40,7 +41,7 @@ fn rest_allows<D: Direction>(length: usize, place: usize, before: u8, character:
 // The first place of the rest that breaks its rule.
 pub(crate) fn rest_fault<D: Direction>(string: &[u8], response: bool) -> Option<usize>
     requires { 17 ≤ length string.now }
-    ensures { RestTested (record { own = D.Ring.ring; other = D.Other.Ring.ring; text = D.Direction.text }) response string.now result }
+    ensures { RestTested (way D.Direction D.Other.Ring.ring) response string.now result }
 {
     let length = string.len();
     if !is_possible::<D>(response, length) {

@@ -1,7 +1,9 @@
 -- What an end holds, as its calls see it.
 -- Assumes nothing.
 use Rattle.std.specs.Prelude.{ℕ, Bool, false, List, [], None, Option}
-use Rattle.blocks.specs.Legal.{Way}
+use Rattle.directions.specs.Rings.{RingRule}
+use Rattle.directions.specs.TextRules.{TextRule}
+use Rattle.blocks.specs.Legal.{Way, way}
 use Rattle.stores.specs.Held.{Stored}
 use Rattle.calls.specs.declared.types.Settings.{Settings}
 use Rattle.calls.specs.declared.types.Label.{Label}
@@ -13,6 +15,10 @@ use Rattle.ends.specs.declared.types.PartHead.{PartHead}
 pub record Ways : Type 0 where
   pub out : Way
   pub inn : Way
+
+-- the ways of an end, by the members of the traits of the two directions: it sends on the first
+abbrev pub ways : record {ring : RingRule; text : TextRule} → record {ring : RingRule; text : TextRule} → Ways
+ways o i = record { out = way o i.ring; inn = way i o.ring }
 
 -- the sending half: how many messages are numbered; the outgoing cells, oldest first; the identifier last put in a message block; how many identifiers are
 -- spent since the last acknowledged one; whether a begun message was withdrawn since the last new block

@@ -5,6 +5,8 @@ ghost use Rattle.ends.specs.Ends.{model};
 ghost use Rattle.stores.specs.Held.{stored};
 ghost use Rattle.ends.specs.Sending.{block_count, block_text, block_fields, response_fields};
 ghost use Rattle.ends.specs.Steps.{Sent, BlockSent};
+ghost use Rattle.ends.specs.Model.{ways};
+ghost use Rattle.blocks.specs.Legal.{way};
 
 use crate::end::End;
 use crate::types::Cell;
@@ -40,7 +42,7 @@ fn block_text<O: Direction>(text: &[u8], index: u8) -> &[u8]
 
 // Writes a block and puts its string on a path; where its fields are not sound, nothing is put.
 fn send<D: Direction, P: AirPath>(block: &Block<'_>, path: &mut P) -> Result<(), BlockFault>
-    ensures { Sent P.AirPath.puts (record { own = D.Ring.ring; other = D.Other.Ring.ring; text = D.Direction.text }) (fields_given block.now) result (P.AirPath.sees path.old) (P.AirPath.sees path.new) }
+    ensures { Sent P.AirPath.puts (way D.Direction D.Other.Ring.ring) (fields_given block.now) result (P.AirPath.sees path.old) (P.AirPath.sees path.new) }
 {
     let mut buffer = [0u8; 238];
     let n = write::<D>(block, &mut buffer)?;
@@ -99,7 +101,7 @@ impl<O: Direction<Other = I>, I: Direction<Other = O>> End<O, I> {
         identifier: Identifier,
         path: &mut P,
     ) -> Result<(), BlockFault>
-        ensures { Sent P.AirPath.puts (record { own = O.Ring.ring; other = I.Ring.ring; text = O.Direction.text }) (block_fields (record { out = record { own = O.Ring.ring; other = I.Ring.ring; text = O.Direction.text }; inn = record { own = I.Ring.ring; other = O.Ring.ring; text = I.Direction.text } }) (model self.now) (stored cell text.now) index identifier.0) result (P.AirPath.sees path.old) (P.AirPath.sees path.new) }
+        ensures { Sent P.AirPath.puts (way O.Direction I.Ring.ring) (block_fields (ways O.Direction I.Direction) (model self.now) (stored cell text.now) index identifier.0) result (P.AirPath.sees path.old) (P.AirPath.sees path.new) }
     {
         let mut buffer = [0u8; 220];
         let count = block_count::<O>(text.len());
@@ -125,7 +127,7 @@ impl<O: Direction<Other = I>, I: Direction<Other = O>> End<O, I> {
         path: &mut P,
     ) -> Result<(), BlockFault>
         requires { index < length (model self.now).outbox.cells }
-        ensures { BlockSent P.AirPath.puts (record { out = record { own = O.Ring.ring; other = I.Ring.ring; text = O.Direction.text }; inn = record { own = I.Ring.ring; other = O.Ring.ring; text = I.Direction.text } }) (model self.now) index acknowledged identifier.0 result (P.AirPath.sees path.old) (P.AirPath.sees path.new) }
+        ensures { BlockSent P.AirPath.puts (ways O.Direction I.Direction) (model self.now) index acknowledged identifier.0 result (P.AirPath.sees path.old) (P.AirPath.sees path.new) }
     {
         match self.sender.cells.record(index) {
             Some(cell) => match self.sender.cells.text(index) {
@@ -138,7 +140,7 @@ impl<O: Direction<Other = I>, I: Direction<Other = O>> End<O, I> {
 
     // Sends a general response.
     pub(crate) fn put_response<P: AirPath>(&self, path: &mut P) -> Result<(), BlockFault>
-        ensures { Sent P.AirPath.puts (record { own = O.Ring.ring; other = I.Ring.ring; text = O.Direction.text }) (response_fields (record { out = record { own = O.Ring.ring; other = I.Ring.ring; text = O.Direction.text }; inn = record { own = I.Ring.ring; other = O.Ring.ring; text = I.Direction.text } }) (model self.now)) result (P.AirPath.sees path.old) (P.AirPath.sees path.new) }
+        ensures { Sent P.AirPath.puts (way O.Direction I.Ring.ring) (response_fields (ways O.Direction I.Direction) (model self.now)) result (P.AirPath.sees path.old) (P.AirPath.sees path.new) }
     {
         let acknowledgment = self.owed();
         let identifier = self.last_identifier();

@@ -5,6 +5,7 @@ ghost use Rattle.blocks.specs.Fields.{named};
 ghost use Rattle.ends.specs.Ends.{model};
 ghost use Rattle.ends.specs.Sending.{names, is_out, advanced, counted, current_place};
 ghost use Rattle.ends.specs.Steps.{length_of, acknowledged};
+ghost use Rattle.ends.specs.Model.{ways};
 
 use crate::blocks_out::block_count;
 use crate::end::End;
@@ -76,7 +77,7 @@ impl<O: Direction<Other = I>, I: Direction<Other = O>> End<O, I> {
     // Advances the current message, at a place, if its block has gone out.
     fn advance_at(&mut self, index: usize)
         requires { Some index ≡ current_place (model self.old).outbox.cells }
-        ensures { model self.new ≡ acknowledged (record { out = record { own = O.Ring.ring; other = I.Ring.ring; text = O.Direction.text }; inn = record { own = I.Ring.ring; other = O.Ring.ring; text = I.Direction.text } }) (model self.old) }
+        ensures { model self.new ≡ acknowledged (ways O.Direction I.Direction) (model self.old) }
     {
         let length = self.length_at(index);
         let blocks = block_count::<O>(length);
@@ -93,7 +94,7 @@ impl<O: Direction<Other = I>, I: Direction<Other = O>> End<O, I> {
 
     // Advances the current message, if there is one and its block has gone out.
     fn advance(&mut self)
-        ensures { model self.new ≡ acknowledged (record { out = record { own = O.Ring.ring; other = I.Ring.ring; text = O.Direction.text }; inn = record { own = I.Ring.ring; other = O.Ring.ring; text = I.Direction.text } }) (model self.old) }
+        ensures { model self.new ≡ acknowledged (ways O.Direction I.Direction) (model self.old) }
     {
         match self.current() {
             Some(index) => self.advance_at(index),
@@ -103,7 +104,7 @@ impl<O: Direction<Other = I>, I: Direction<Other = O>> End<O, I> {
 
     // Counts an acknowledgment.
     pub(crate) fn count(&mut self, acknowledgment: Option<Identifier>)
-        ensures { model self.new ≡ counted (record { out = record { own = O.Ring.ring; other = I.Ring.ring; text = O.Direction.text }; inn = record { own = I.Ring.ring; other = O.Ring.ring; text = I.Direction.text } }) (model self.old) (named acknowledgment) }
+        ensures { model self.new ≡ counted (ways O.Direction I.Direction) (model self.old) (named acknowledgment) }
     {
         if names(acknowledgment, self.sender.put) {
             self.advance();

@@ -6,6 +6,7 @@ ghost use Rattle.stores.specs.Texts.{octets_of};
 ghost use Rattle.ends.specs.Ends.{model, inbox_of};
 ghost use Rattle.ends.specs.Hearing.{again, is_next, mark_of, owing, lengthened};
 ghost use Rattle.ends.specs.Calls.{BlockHeard};
+ghost use Rattle.ends.specs.Model.{ways};
 
 use crate::end::{End, Receiver};
 use crate::types::PartHead;
@@ -190,7 +191,7 @@ impl<O: Direction<Other = I>, I: Direction<Other = O>> End<O, I> {
         text: &[u8],
     ) -> Result<Heard, LinkFault>
         requires { text.now ≡ map (λ o. o % 128) octets.now }
-        ensures { BlockHeard (record { out = record { own = O.Ring.ring; other = I.Ring.ring; text = O.Direction.text }; inn = record { own = I.Ring.ring; other = O.Ring.ring; text = I.Direction.text } }) (model self.old) (record { identifier = identifier.0; label = label; last = last; text = text.now }) result (model self.new) }
+        ensures { BlockHeard (ways O.Direction I.Direction) (model self.old) (record { identifier = identifier.0; label = label; last = last; text = text.now }) result (model self.new) }
     {
         if self.is_again(identifier) {
             self.receiver.owe();

@@ -1,6 +1,7 @@
 // Giving an end a message to send.
 ghost use Rattle.ends.specs.Ends.{model};
 ghost use Rattle.ends.specs.Calls.{Submits};
+ghost use Rattle.ends.specs.Model.{ways};
 
 use crate::end::End;
 use crate::legal::{illegal_place, longest_text};
@@ -11,7 +12,7 @@ use directions::Direction;
 impl<O: Direction<Other = I>, I: Direction<Other = O>> End<O, I> {
     // Takes a message to be sent, and answers its number.
     pub fn submit(&mut self, label: Label, text: &[u8]) -> Result<u64, LinkFault>
-        ensures { Submits (record { out = record { own = O.Ring.ring; other = I.Ring.ring; text = O.Direction.text }; inn = record { own = I.Ring.ring; other = O.Ring.ring; text = I.Direction.text } }) (model self.old) label text.now result (model self.new) }
+        ensures { Submits (ways O.Direction I.Direction) (model self.old) label text.now result (model self.new) }
     {
         if let Some(place) = illegal_place(label, text, longest_text::<O>()) {
             return Err(LinkFault::Text { place });

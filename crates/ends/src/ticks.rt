@@ -4,6 +4,7 @@ ghost use Rattle.ends.specs.Ends.{model, outbox_of};
 ghost use Rattle.ends.specs.Sending.{fresh_identifier, sent_fresh, sent_again, sent_response, sent_nothing, with_cells, stage_at, tried, plan_of};
 ghost use Rattle.ends.specs.Steps.{Planned};
 ghost use Rattle.ends.specs.Calls.{Ticks, on_time};
+ghost use Rattle.ends.specs.Model.{ways};
 
 use crate::end::{End, Sender};
 use crate::types::{Cell, Clock, Plan, Stage};
@@ -54,7 +55,7 @@ impl<O: Direction<Other = I>, I: Direction<Other = O>> End<O, I> {
     )
         requires time { time ≤ 2 ^ 62 }
         requires identifier { identifier.0 ≡ fresh_identifier O.Ring.ring (model self.old).outbox }
-        ensures { model self.new ≡ sent_fresh (record { out = record { own = O.Ring.ring; other = I.Ring.ring; text = O.Direction.text }; inn = record { own = I.Ring.ring; other = O.Ring.ring; text = I.Direction.text } }) (model self.old) index acknowledged time draw }
+        ensures { model self.new ≡ sent_fresh (ways O.Direction I.Direction) (model self.old) index acknowledged time draw }
     {
         let spent = self.spent_by();
         self.clock = self.tried(1, time, draw);
@@ -106,7 +107,7 @@ impl<O: Direction<Other = I>, I: Direction<Other = O>> End<O, I> {
         requires plan { plan ≡ plan_of (model self.old) time }
         requires within { Planned plan (length (model self.old).outbox.cells) }
         requires time { on_time (model self.old) time ≡ true }
-        ensures { Ticks P.AirPath.puts (record { out = record { own = O.Ring.ring; other = I.Ring.ring; text = O.Direction.text }; inn = record { own = I.Ring.ring; other = O.Ring.ring; text = I.Direction.text } }) (model self.old) time draw result (model self.new) (P.AirPath.sees path.old) (P.AirPath.sees path.new) }
+        ensures { Ticks P.AirPath.puts (ways O.Direction I.Direction) (model self.old) time draw result (model self.new) (P.AirPath.sees path.old) (P.AirPath.sees path.new) }
     {
         match plan {
             Plan::Fresh {
@@ -146,7 +147,7 @@ impl<O: Direction<Other = I>, I: Direction<Other = O>> End<O, I> {
         draw: u64,
         path: &mut P,
     ) -> Result<Ticked, LinkFault>
-        ensures { Ticks P.AirPath.puts (record { out = record { own = O.Ring.ring; other = I.Ring.ring; text = O.Direction.text }; inn = record { own = I.Ring.ring; other = O.Ring.ring; text = I.Direction.text } }) (model self.old) time draw result (model self.new) (P.AirPath.sees path.old) (P.AirPath.sees path.new) }
+        ensures { Ticks P.AirPath.puts (ways O.Direction I.Direction) (model self.old) time draw result (model self.new) (P.AirPath.sees path.old) (P.AirPath.sees path.new) }
     {
         if !self.on_time(time) {
             return Err(LinkFault::Time);

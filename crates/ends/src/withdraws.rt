@@ -2,6 +2,7 @@
 ghost use Rattle.std.specs.Prelude.{◌≡◌, ◌≤◌};
 ghost use Rattle.ends.specs.Ends.{model};
 ghost use Rattle.ends.specs.Calls.{Withdraws, too_many_spent};
+ghost use Rattle.ends.specs.Model.{ways};
 
 use crate::end::End;
 use crate::stages::{block_count, is_begun, passes, withdrawn_as};
@@ -20,14 +21,14 @@ fn room<D: Direction>() -> usize
 impl<O: Direction<Other = I>, I: Direction<Other = O>> End<O, I> {
     // Whether a message of this stage has begun while too many identifiers are spent.
     fn is_bound(&self, stage: Stage) -> bool
-        ensures { result ≡ too_many_spent (record { out = record { own = O.Ring.ring; other = I.Ring.ring; text = O.Direction.text }; inn = record { own = I.Ring.ring; other = O.Ring.ring; text = I.Direction.text } }) (model self.now) stage }
+        ensures { result ≡ too_many_spent (ways O.Direction I.Direction) (model self.now) stage }
     {
         is_begun(stage) && (O::size() as u16).saturating_sub(1) < (self.sender.spent as u16) + 2
     }
 
     // Settles the unsettled message that has the number, without waiting for it to be delivered.
     pub fn withdraw(&mut self, number: u64) -> Result<(), LinkFault>
-        ensures { Withdraws (record { out = record { own = O.Ring.ring; other = I.Ring.ring; text = O.Direction.text }; inn = record { own = I.Ring.ring; other = O.Ring.ring; text = I.Direction.text } }) (model self.old) number result (model self.new) }
+        ensures { Withdraws (ways O.Direction I.Direction) (model self.old) number result (model self.new) }
     {
         let Some(found) = self.sender.find(number) else {
             return Err(LinkFault::Unknown);

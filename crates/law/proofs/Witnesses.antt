@@ -1,6 +1,7 @@
 -- Two runs that deliver a message of two blocks: one over paths that repeat and spoil, one in three clean rounds, of which the
 -- third has nothing to do. Assumes nothing.
 use Rattle.std.proofs.Common.{◌≡◌, ℕ, ◌≤◌, true, false, List, [], ◌∷◌, refl, subst, arith, eq-eqb, ne_eqb}
+use Rattle.std.proofs.Math.Option.{none-ne-some}
 use mathlib.Core.Option.{none, some}
 use Rattle.law.specs.Directions.{Direction, Sound, next}
 use Rattle.law.specs.Senders.{Text, Message, message, Status, unsettled, delivered, course, idle, ready, sender, new_sender, settle, Unsettled, Chosen, block, submits, first, further, again, empty, settles, advances, unnamed, stale}
@@ -49,9 +50,6 @@ second_apart n h e =
     let z : ◌≡◌ {A = ℕ} 0 1 = cc in
     omega arith
 
-first_apart : (i : ℕ) → none ≡ some i → ⊥
-first_apart i e = let z : ◌≡◌ {A = ℕ} 0 1 = cc in omega arith
-
 -- links as they are seen from side x, whose blocks go in direction d: its end, the other end, what waits on the path that it
 -- puts on, and on the other; and the steps at either end
 record Seat (dn up d b : Direction) (x : Side) : Type 0 where
@@ -91,7 +89,7 @@ module _ {dn up d b : Direction} {x : Side} (sound : Sound d) (seat : Seat dn up
   f₂ = an_end new_sender (r₂ []) false
 
   takes_first : Takes d new_receiver (block 0 (d.place 1 0) label head false) part r₁
-  takes_first = takes_part (first_apart 0) (rw (sound.alone 1 false)) (omega arith)
+  takes_first = takes_part (none-ne-some 0) (rw (sound.alone 1 false)) (omega arith)
 
   takes_second : Takes d r₁ (block second (d.place 1 1) label tail true) complete (r₂ given)
   takes_second =

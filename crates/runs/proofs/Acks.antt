@@ -1,5 +1,6 @@
 -- Any acknowledgment that is heard: it counts, or it changes nothing. Assumes nothing.
-use Rattle.std.proofs.Common.{◌≡◌, ℕ, zero, suc, Bool, true, false, ◌&&◌, eqb, List, [], ◌∷◌, Some, None, sym, refl, ap, ◌∙◌, subst, arith, eqb-true}
+use Rattle.std.proofs.Common.{◌≡◌, ℕ, zero, suc, Bool, true, false, ◌&&◌, eqb, List, [], ◌∷◌, Some, None, sym, refl, ap, ◌∙◌, subst, eqb-true}
+use Rattle.std.proofs.Math.Option.{none-ne-some}
 use mathlib.Core.Option.{Option, none, some, some-injective}
 use borrow.Author.Tests.{eqb-false, clash}
 use Rattle.std.specs.declared.option.Option as std
@@ -39,13 +40,6 @@ out_same room m (c ∷ cs) = go c.«record».stage (out_same room m cs)
 -- what a current block tells
 named_current : {g : List Message} {c : ℕ → Status} {ph : Phase} {p : Option ℕ} {s i : ℕ} → Current (sender g c ph p s) i → (p ≡ some i) × (is_out ph ≡ true)
 named_current current = (refl, refl)
-
-abbrev filled : Option ℕ → ℕ
-filled none = 0
-filled (some i) = 1
-
-pub none_some : (i : ℕ) → none ≡ some i → ⊥
-none_some i e = let z : ◌≡◌ {A = ℕ} 0 1 = ap filled e in absurd (omega (arith, z))
 
 -- the block acknowledged, if the test says that one is
 abbrev pub place_if : Bool → List (Stored Cell) → std.Option (ℕ × ℕ)
@@ -101,7 +95,7 @@ module _ (room : ℕ) (C : Counted room) (r : RingRule) where
       (q : std.Option ℕ) → o.put ≡ q → Same r q p →
       (a : std.Option ℕ) (a' : Option ℕ) → Same r a a' → AckIs told o g c ph p s a' (names a q && current_out o.cells)
   ack_is S q f w a a' no_one = unchanged S none unnamed
-  ack_is S q f no_one a a' (one {c = x} {i = i} h) = unchanged S (some i) (stale (λ k. none_some i (named_current k).0))
+  ack_is S q f no_one a a' (one {c = x} {i = i} h) = unchanged S (some i) (stale (λ k. none-ne-some i (named_current k).0))
   ack_is {told = told} {o = o} {g = g} {c = c} {ph = ph} {s = s} S q f (one {c = y} {i = j} k) a a' (one {c = x} {i = i} h) =
       subst (λ (b : Bool). AckIs told o g c ph (some j) s (some i) (b && current_out o.cells)) (sym (same_index r x y i j h k))
       (tested S i (eqb i j) refl (current_out o.cells) refl)

@@ -1,5 +1,6 @@
 -- A block heard is taken, or refused, as the law's receiver takes it. Assumes nothing.
 use Rattle.std.proofs.Common.{◌≡◌, ℕ, ◌≤◌, Bool, true, false, cond, ◌&&◌, ltb, leb, List, [], ◌∷◌, ◌++◌, reverse, length, drop, Some, None, Ok, Err, Result, sym, refl, ap, ◌∙◌, subst, arith, ltb-false, ltb-true, eqb-true, leb-false, leb-true}
+use Rattle.std.proofs.Math.Option.{none-ne-some}
 use mathlib.Core.Option.{Option, some, some-injective}
 use borrow.Author.Tests.{eqb-false, clash}
 use Rattle.std.specs.declared.option.Option as std
@@ -19,7 +20,6 @@ use Rattle.law.specs.Senders as sender
 use Rattle.law.specs.Senders.{Text, Message}
 use Rattle.law.specs.Receivers as law
 use Rattle.runs.proofs.Rings.{Is, Same, no_one, one, same_index, is_next_same}
-use Rattle.runs.proofs.Acks.{none_some}
 use Rattle.runs.proofs.Receivers.{joined_reverse, marks_back, shut, opened, PartAfter, no_part, a_part, mark_same, joins_same, waiting_add, waiting_length, ReceiverIs}
 
 -- the answer of hear to a block that is taken so
@@ -37,7 +37,7 @@ again_yes c k no_one h e = absurd (clash e)
 again_yes {r = r} c k (one {c = d} {i = j} q) h e = ap (λ (x : ℕ). some x) (eqb-true j k (sym (same_index r d c j k q h) ∙ e))
 
 again_no : {r : RingRule} {a : std.Option ℕ} {o : Option ℕ} (c k : ℕ) → Same r a o → Is r c k → hearing.again a c ≡ false → o ≡ some k → ⊥
-again_no c k no_one h e z = none_some k z
+again_no c k no_one h e z = none-ne-some k z
 again_no {r = r} c k (one {c = d} {i = j} q) h e z = eqb-false j k (sym (same_index r d c j k q h) ∙ e) (some-injective j k z)
 
 module _ (w : Ways) (originator : ℕ) (two : 2 ≤ w.inn.own.size) where

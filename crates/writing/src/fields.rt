@@ -3,6 +3,7 @@ ghost use Rattle.std.specs.Prelude.{◌≡◌, true, false, length, is_some};
 ghost use Rattle.blocks.specs.Fields.{fields_given, named, label_of};
 ghost use Rattle.blocks.specs.Legal.{acknowledges, text_length};
 ghost use Rattle.writing.specs.Laying.{Lengths, AddressTested, PairTested, LabelTested, HeadTested, CharactersTested, TextTested, FieldsTested};
+ghost use Rattle.blocks.specs.Legal.{way};
 
 use blocks::{Block, BlockFault, MODE, STX, address_allows, is_label, text_allows};
 use directions::{Direction, Identifier, Ring};
@@ -59,7 +60,7 @@ fn label_fault(block: &Block<'_>) -> Option<usize>
 
 // The first place of the head whose field is not as its rule asks.
 fn head_fault<D: Direction>(block: &Block<'_>) -> Option<usize>
-    ensures tested { HeadTested (record { own = D.Ring.ring; other = D.Other.Ring.ring; text = D.Direction.text }) (fields_given block.now) result }
+    ensures tested { HeadTested (way D.Direction D.Other.Ring.ring) (fields_given block.now) result }
     ensures long { is_some result ≡ false → Lengths (fields_given block.now) }
 {
     if let Some(index) = address_fault(block.address()) {
@@ -87,7 +88,7 @@ fn is_text_length<D: Direction>(last: bool, count: usize) -> bool
 
 // The index of the first text character that may not stand there.
 fn character_fault<D: Direction>(text: &[u8]) -> Option<usize>
-    ensures { CharactersTested (record { own = D.Ring.ring; other = D.Other.Ring.ring; text = D.Direction.text }) text.now result }
+    ensures { CharactersTested (way D.Direction D.Other.Ring.ring) text.now result }
 {
     let mut before = STX;
     for (index, character) in text.iter().enumerate() {
@@ -101,7 +102,7 @@ fn character_fault<D: Direction>(text: &[u8]) -> Option<usize>
 
 // The first place of the rest that the text of a message would take and may not.
 fn text_fault<D: Direction>(block: &Block<'_>) -> Option<usize>
-    ensures { TextTested (record { own = D.Ring.ring; other = D.Other.Ring.ring; text = D.Direction.text }) (fields_given block.now) result }
+    ensures { TextTested (way D.Direction D.Other.Ring.ring) (fields_given block.now) result }
 {
     let Block::Message { last, text, .. } = block else {
         return None;
@@ -117,7 +118,7 @@ fn text_fault<D: Direction>(block: &Block<'_>) -> Option<usize>
 
 // Refuses bad fields at the place that they would take.
 pub(crate) fn test_fields<D: Direction>(block: &Block<'_>) -> Result<(), BlockFault>
-    ensures { FieldsTested (record { own = D.Ring.ring; other = D.Other.Ring.ring; text = D.Direction.text }) (fields_given block.now) result }
+    ensures { FieldsTested (way D.Direction D.Other.Ring.ring) (fields_given block.now) result }
 {
     if let Some(place) = head_fault::<D>(block) {
         return Err(BlockFault::Head { place });

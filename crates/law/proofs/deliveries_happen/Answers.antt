@@ -1,6 +1,5 @@
-use Rattle.std.proofs.Common.{refl}
 use Rattle.law.proofs.Witnesses.{deliveries_happen_lem}
 use Rattle.law.proofs.deliveries_happen.Goals as goal
 
 pub returns : goal.returns
-returns c = record { value = refl; deliveries = deliveries_happen_lem }
+returns c = deliveries_happen_lem

@@ -1,6 +1,5 @@
-use Rattle.std.proofs.Common.{refl}
 use Rattle.law.proofs.Witnesses.{rounds_happen_lem}
 use Rattle.law.proofs.rounds_happen.Goals as goal
 
 pub returns : goal.returns
-returns c = record { value = refl; rounds = rounds_happen_lem }
+returns c = rounds_happen_lem

@@ -1,6 +1,5 @@
-use Rattle.std.proofs.Common.{refl}
 use Rattle.runs.proofs.Cuts.{cuts_come_back_lem}
 use Rattle.runs.proofs.cuts_come_back.Goals as goal
 
 pub returns : goal.returns
-returns c = record { value = refl; law = cuts_come_back_lem }
+returns c = cuts_come_back_lem

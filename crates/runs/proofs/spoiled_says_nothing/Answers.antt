@@ -1,6 +1,5 @@
-use Rattle.std.proofs.Common.{refl}
 use Rattle.runs.proofs.Spoils.{spoiled_says_nothing_lem}
 use Rattle.runs.proofs.spoiled_says_nothing.Goals as goal
 
 pub returns : goal.returns
-returns c = record { value = refl; law = spoiled_says_nothing_lem }
+returns c = spoiled_says_nothing_lem
