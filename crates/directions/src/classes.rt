@@ -6,14 +6,14 @@ ghost use Rattle.directions.specs.TextRules.{is_letter, is_digit, is_letter_or_d
 pub fn is_letter(character: u8) -> bool
     ensures { result ≡ is_letter character }
 {
-    b'A' <= character && character <= b'Z'
+    character.is_ascii_uppercase()
 }
 
 // 0–9
 pub fn is_digit(character: u8) -> bool
     ensures { result ≡ is_digit character }
 {
-    b'0' <= character && character <= b'9'
+    character.is_ascii_digit()
 }
 
 pub fn is_letter_or_digit(character: u8) -> bool

@@ -8,8 +8,9 @@ use crate::classes::{is_digit, is_letter, is_letter_or_digit};
 use crate::marks::{Identifier, Joining, Mark};
 use crate::traits::{Direction, Ring};
 use crate::uplink::Uplink;
+use arrayvec::ArrayVec;
 
-#[derive(Clone, Copy)]
+#[derive(Clone, Copy, PartialEq, Eq, Debug)]
 pub struct Downlink;
 
 // The value of a digit, given with its parity.
@@ -17,7 +18,7 @@ fn digit(octet: u8) -> u16
     ensures value { result ≡ octet % 128 - 48 }
     ensures small { result < 80 }
 {
-    (octet % 128).saturating_sub(b'0') as u16
+    u16::from((octet % 128).saturating_sub(b'0'))
 }
 
 impl Ring for Downlink {
@@ -53,16 +54,16 @@ impl Direction for Downlink {
         match index {
             0 => is_letter(character),
             1 => is_digit(character),
-            2 => is_digit(character) && !(before == b'0' && character == b'0'),
-            3 => b'A' <= character && character <= b'P',
+            2 => is_digit(character) && (before, character) != (b'0', b'0'),
+            3 => matches!(character, b'A'..=b'P'),
             _ => is_letter_or_digit(character),
         }
     }
 
-    fn opening(originator: u8, flight: &[u8; 6], number: u64, index: u8) -> [u8; 10] {
+    fn opening(originator: u8, flight: &[u8; 6], number: u64, index: u8) -> ArrayVec<u8, 10> {
         let shown = (number.saturating_sub(1) % 99 + 1) as u8;
         let [a, b, c, d, e, f] = *flight;
-        [
+        ArrayVec::from([
             originator,
             b'0' + shown / 10,
             b'0' + shown % 10,
@@ -73,17 +74,17 @@ impl Direction for Downlink {
             d,
             e,
             f,
-        ]
+        ])
     }
 
     fn mark(octets: &[u8]) -> Mark {
-        if octets.len() < 4 {
+        let [originator, tens, ones, letter, ..] = octets else {
             return Mark::Plain;
-        }
+        };
         Mark::Numbered {
-            originator: octets[0] % 128,
-            number: digit(octets[1]) * 10 + digit(octets[2]),
-            letter: octets[3] % 128,
+            originator: originator % 128,
+            number: digit(*tens) * 10 + digit(*ones),
+            letter: letter % 128,
         }
     }
 
@@ -92,34 +93,21 @@ impl Direction for Downlink {
     }
 
     fn joining(part: Option<Mark>, block: Mark, _is_next: bool) -> Joining {
-        let Mark::Numbered {
-            originator,
-            number,
-            letter,
-        } = block
-        else {
-            return Joining::Neither;
-        };
-        if letter == b'A' {
-            return Joining::Opens;
-        }
-        let Some(
+        match block {
+            Mark::Numbered { letter: b'A', .. } => Joining::Opens,
+            // the open part's last block bears the letter before
             Mark::Numbered {
-                originator: last_originator,
-                number: last_number,
-                letter: last_letter,
-            },
-        ) = part
-        else {
-            return Joining::Neither;
-        };
-        if last_originator == originator
-            && last_number == number
-            && (last_letter as u16) + 1 == (letter as u16)
-        {
-            Joining::Continues
-        } else {
-            Joining::Neither
+                originator,
+                number,
+                letter,
+            } if letter.checked_sub(1).is_some_and(|letter| {
+                part == Some(Mark::Numbered {
+                    originator,
+                    number,
+                    letter,
+                })
+            }) => { Joining::Continues }
+            _ => Joining::Neither,
         }
     }
 }

@@ -1,9 +1,10 @@
 // A ring of identifiers, and a direction: a ring with a text rule added.
-ghost use Rattle.std.specs.Prelude.{◌≡◌, ◌%◌, map, take};
+ghost use Rattle.std.specs.Prelude.{◌≡◌, ◌%◌, map};
 ghost use Rattle.directions.specs.Rings.{RingRule, Cyclic, member, next};
 ghost use Rattle.directions.specs.TextRules.{TextRule, Joins, OpeningLaws, OpenerLaws};
 
 use crate::marks::{Identifier, Joining, Mark};
+use arrayvec::ArrayVec;
 
 pub trait Ring {
     ghost ring: { RingRule };
@@ -21,7 +22,7 @@ pub trait Ring {
         ensures { result ≡ member ring identifier.0 }
     {
         let first = Self::first();
-        first.0 <= identifier.0 && identifier.0 < first.0 + Self::size()
+        (first.0..first.0 + Self::size()).contains(&identifier.0)
     }
 
     // The identifier after this one; the first after the last.
@@ -29,10 +30,9 @@ pub trait Ring {
         ensures { result.0 ≡ next ring identifier.0 }
     {
         let first = Self::first();
-        if (identifier.0 as u16) + 1 < (first.0 as u16) + (Self::size() as u16) {
-            Identifier(identifier.0 + 1)
-        } else {
-            first
+        match identifier.0.checked_add(1) {
+            Some(next) if next < first.0 + Self::size() => Identifier(next),
+            _ => first,
         }
     }
 
@@ -50,12 +50,13 @@ pub trait Direction: Ring {
         ensures { result ≡ text.opening };
 
     // Whether a character may stand at an index of that opening, after the character before it.
+    // Three values and no struct: callers find them apart, and would build it for this one call.
     fn opening_allows(index: usize, before: u8, character: u8) -> bool
         ensures { result ≡ text.allows index before character };
 
     // The opening of the text of an originator's message, by the message's number and the block's index: its first characters.
-    fn opening(originator: u8, flight: &[u8; 6], number: u64, index: u8) -> [u8; 10]
-        ensures { take text.opening result ≡ text.opener originator flight.now number index };
+    fn opening(originator: u8, flight: &[u8; 6], number: u64, index: u8) -> ArrayVec<u8, 10>
+        ensures { result.items ≡ text.opener originator flight.now number index };
 
     // What a text, of octets, says of its block's place.
     fn mark(octets: &[u8]) -> Mark

@@ -5,8 +5,9 @@ ghost use Rattle.std.proofs.Common.{rules};
 use crate::downlink::Downlink;
 use crate::marks::{Identifier, Joining, Mark};
 use crate::traits::{Direction, Ring};
+use arrayvec::ArrayVec;
 
-#[derive(Clone, Copy)]
+#[derive(Clone, Copy, PartialEq, Eq, Debug)]
 pub struct Uplink;
 
 impl Ring for Uplink {
@@ -42,8 +43,8 @@ impl Direction for Uplink {
         false
     }
 
-    fn opening(_originator: u8, _flight: &[u8; 6], _number: u64, _index: u8) -> [u8; 10] {
-        [0; 10]
+    fn opening(_originator: u8, _flight: &[u8; 6], _number: u64, _index: u8) -> ArrayVec<u8, 10> {
+        ArrayVec::new()
     }
 
     fn mark(_octets: &[u8]) -> Mark {

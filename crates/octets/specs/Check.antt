@@ -1,7 +1,7 @@
 -- The 16-bit check of a string of octets. It starts at 0. Each octet is XORed into its low eight bits; then eight times the value is
 -- shifted right once and, if a one fell out, XORed with 8408 hex.
 -- Assumes nothing.
-use Rattle.std.specs.Prelude.{ℕ, zero, suc, ◌/◌, ◌%◌, cond, List, [], ◌∷◌, ◌==◌, bit_xor}
+use Rattle.std.specs.Prelude.{ℕ, zero, suc, ◌/◌, ◌%◌, cond, List, ◌==◌, bit_xor, fold}
 
 -- one step: the value shifted right once and, if a one fell out, XORed with 8408 hex
 unfoldable pub shifted : ℕ → ℕ
@@ -18,8 +18,7 @@ advance v o = steps 8 (bit_xor v o)
 
 -- the value after a string of octets, from the value v
 unfoldable pub check_from : ℕ → List ℕ → ℕ
-check_from v [] = v
-check_from v (o ∷ os) = check_from (advance v o) os
+check_from v os = fold advance v os
 
 -- the check of a string of octets
 unfoldable pub check : List ℕ → ℕ

@@ -9,18 +9,16 @@ use crate::remainders::remainder;
 pub fn check(octets: &[u8]) -> u16
     ensures { result ≡ check octets.now }
 {
-    let mut value = 0;
-    for octet in octets {
-        value = advanced(value, *octet);
-    }
-    value
+    octets
+        .iter()
+        .fold(0, |value, octet| advanced(value, *octet))
 }
 
 // The value after one more octet.
 fn advanced(value: u16, octet: u8) -> u16
     ensures { result ≡ advance value octet }
 {
-    let mixed = value ^ octet as u16;
+    let mixed = value ^ u16::from(octet);
     (value / 256) ^ remainder((mixed % 256) as u8)
 }
 

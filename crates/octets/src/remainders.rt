@@ -32,5 +32,5 @@ const REMAINDERS: [u16; 256] = [
 pub(crate) fn remainder(index: u8) -> u16
     ensures { result ≡ steps 8 index }
 {
-    REMAINDERS[index as usize]
+    REMAINDERS[usize::from(index)]
 }

@@ -2,94 +2,64 @@
 use crate::lengths::{DOWN_HEAD, DOWN_LENGTHS, UP_HEAD, UP_LENGTHS};
 use crate::replaced::answers;
 use crate::whole::is_written;
+use arrayvec::ArrayVec;
 use blocks::Block;
 use directions::{Direction, Downlink, Identifier, Uplink};
 use octets::character_of;
 
-// The length; the two octets of the check; the refusal's number and place, or 0 and 0 where the string is a block.
+// The length; the two octets of the check; the refusal's number and place, or none where the string is a block.
 #[derive(Clone, Copy)]
 pub(crate) struct Length(
     pub(crate) usize,
-    pub(crate) u8,
-    pub(crate) u8,
-    pub(crate) u8,
-    pub(crate) usize,
+    pub(crate) [u8; 2],
+    pub(crate) Option<(u8, usize)>,
 );
 
-// The octet at a place: of the opening, then `A`, and ETX, the check and DEL at the end.
-fn octet_at(opening: &[u8], case: &Length, place: usize) -> u8 {
-    if place < case.0 {
-        match case.0 - place {
-            1 => return 0x7F,
-            2 => return case.2,
-            3 => return case.1,
-            4 => return 0x83,
-            _ => {}
-        }
+// A string of this length: the opening, then `A`, and ETX, the check and DEL at the end.
+fn string_of(opening: &[u8], length: usize, check: [u8; 2]) -> ArrayVec<u8, 240> {
+    let [low, high] = check;
+    let mut string = ArrayVec::from([0xC1; 240]);
+    string.truncate(length);
+    for (octet, opening) in string.iter_mut().zip(opening) {
+        *octet = *opening;
     }
-    match opening.get(place) {
-        Some(octet) => *octet,
-        None => 0xC1,
-    }
-}
-
-fn string_of(opening: &[u8], case: &Length) -> [u8; 240] {
-    let mut string = [0; 240];
-    for place in 0..240usize {
-        string[place] = octet_at(opening, case, place);
+    for (octet, end) in string.iter_mut().rev().zip([0x7F, high, low, 0x83]) {
+        *octet = end;
     }
     string
 }
 
-// The characters from place 14 on: those of the opening, then `A`.
-fn text_of(opening: &[u8]) -> [u8; 220] {
-    let mut text = [b'A'; 220];
-    for index in 0..220usize {
-        if let Some(octet) = opening.get(14 + index) {
-            text[index] = character_of(*octet);
-        }
+// A text of this length: the characters of the opening from place 14 on, then `A`.
+fn text_of(opening: &[u8], length: usize) -> ArrayVec<u8, 220> {
+    let mut text = ArrayVec::from([b'A'; 220]);
+    text.truncate(length);
+    for (character, octet) in text.iter_mut().zip(opening.iter().skip(14)) {
+        *character = character_of(*octet);
     }
     text
 }
 
-// Whether the block with the fields of `head` and a text of this length is written as the string.
-fn is_written_so<D: Direction>(
-    head: &Block<'_>,
-    opening: &[u8],
-    length: usize,
-    string: &[u8],
-) -> bool {
-    let text = text_of(opening);
-    let count = if length < 18 { 0 } else { length - 18 };
-    if count > 220 {
-        return false;
-    }
+// Whether the block with the fields of `head` and a text that fills the length is written as the string.
+fn is_written_so<D: Direction>(head: &Block<'_>, opening: &[u8], string: &[u8]) -> bool {
+    let text = text_of(opening, string.len().saturating_sub(18));
     let block = Block::Message {
         address: head.address(),
         acknowledgment: head.acknowledgment(),
         label: head.label(),
         identifier: head.identifier(),
         last: true,
-        text: &text[..count],
+        text: &text,
     };
     is_written::<D>(&block, string)
 }
 
-// How many lengths from the first on are read, and if they are blocks written, as they should be.
-fn passed<D: Direction>(head: &Block<'_>, opening: &[u8], cases: &[Length]) -> usize {
-    for (index, case) in cases.iter().enumerate() {
-        let whole = string_of(opening, case);
-        if case.0 > 240 {
-            return index;
-        }
-        let string = &whole[..case.0];
-        if !answers::<D>(string, case.3, case.4)
-            || case.3 == 0 && !is_written_so::<D>(head, opening, case.0, string)
-        {
-            return index;
-        }
-    }
-    cases.len()
+// The first length that is not read, or of a block not written, as it should be.
+fn failed<D: Direction>(head: &Block<'_>, opening: &[u8], cases: &[Length]) -> Option<usize> {
+    cases.iter().position(|Length(length, check, refusal)| {
+        let string = string_of(opening, *length, *check);
+        !answers::<D>(&string, *refusal)
+            || refusal.is_none() && !is_written_so::<D>(head, opening, &string)
+    })
 }
 
 #[test]
@@ -102,10 +72,7 @@ fn downlink_lengths(rt: HostRuntime) {
         last: true,
         text: b"",
     };
-    assert_eq!(rt;
-        passed::<Downlink>(&head, &DOWN_HEAD, &DOWN_LENGTHS),
-        DOWN_LENGTHS.len()
-    );
+    assert_eq!(rt; failed::<Downlink>(&head, &DOWN_HEAD, &DOWN_LENGTHS), None);
 }
 
 #[test]
@@ -118,8 +85,5 @@ fn uplink_lengths(rt: HostRuntime) {
         last: true,
         text: b"",
     };
-    assert_eq!(rt;
-        passed::<Uplink>(&head, &UP_HEAD, &UP_LENGTHS),
-        UP_LENGTHS.len()
-    );
+    assert_eq!(rt; failed::<Uplink>(&head, &UP_HEAD, &UP_LENGTHS), None);
 }

@@ -7,19 +7,19 @@ pub(crate) const DOWN_HEAD: [u8; 24] = [
 ];
 
 pub(crate) const DOWN_LENGTHS: [Length; 13] = [
-    Length(0, 0x00, 0x00, 3, 0),
-    Length(1, 0x00, 0x00, 3, 1),
-    Length(16, 0x00, 0x00, 3, 16),
-    Length(17, 0xAE, 0x11, 8, 13),
-    Length(18, 0xE2, 0x6F, 8, 13),
-    Length(19, 0x96, 0xAE, 8, 13),
-    Length(27, 0xB6, 0x3A, 8, 13),
-    Length(28, 0xCA, 0x6F, 0, 0),
-    Length(29, 0x7C, 0xAA, 0, 0),
-    Length(237, 0x4E, 0x67, 0, 0),
-    Length(238, 0x58, 0x68, 0, 0),
-    Length(239, 0xE0, 0x1D, 3, 239),
-    Length(240, 0x56, 0x24, 3, 240),
+    Length(0, [0x00, 0x00], Some((3, 0))),
+    Length(1, [0x00, 0x00], Some((3, 1))),
+    Length(16, [0x00, 0x00], Some((3, 16))),
+    Length(17, [0xAE, 0x11], Some((8, 13))),
+    Length(18, [0xE2, 0x6F], Some((8, 13))),
+    Length(19, [0x96, 0xAE], Some((8, 13))),
+    Length(27, [0xB6, 0x3A], Some((8, 13))),
+    Length(28, [0xCA, 0x6F], None),
+    Length(29, [0x7C, 0xAA], None),
+    Length(237, [0x4E, 0x67], None),
+    Length(238, [0x58, 0x68], None),
+    Length(239, [0xE0, 0x1D], Some((3, 239))),
+    Length(240, [0x56, 0x24], Some((3, 240))),
 ];
 
 pub(crate) const UP_HEAD: [u8; 14] = [
@@ -27,17 +27,17 @@ pub(crate) const UP_HEAD: [u8; 14] = [
 ];
 
 pub(crate) const UP_LENGTHS: [Length; 13] = [
-    Length(0, 0x00, 0x00, 3, 0),
-    Length(1, 0x00, 0x00, 3, 1),
-    Length(16, 0x00, 0x00, 3, 16),
-    Length(17, 0xF8, 0x4E, 0, 0),
-    Length(18, 0x0E, 0x58, 8, 13),
-    Length(19, 0x63, 0x2A, 0, 0),
-    Length(27, 0x50, 0x0E, 0, 0),
-    Length(28, 0xCE, 0x91, 0, 0),
-    Length(29, 0xA6, 0xEC, 0, 0),
-    Length(237, 0x8B, 0x9E, 0, 0),
-    Length(238, 0x00, 0xF9, 0, 0),
-    Length(239, 0xBC, 0xC3, 3, 239),
-    Length(240, 0x61, 0xBC, 3, 240),
+    Length(0, [0x00, 0x00], Some((3, 0))),
+    Length(1, [0x00, 0x00], Some((3, 1))),
+    Length(16, [0x00, 0x00], Some((3, 16))),
+    Length(17, [0xF8, 0x4E], None),
+    Length(18, [0x0E, 0x58], Some((8, 13))),
+    Length(19, [0x63, 0x2A], None),
+    Length(27, [0x50, 0x0E], None),
+    Length(28, [0xCE, 0x91], None),
+    Length(29, [0xA6, 0xEC], None),
+    Length(237, [0x8B, 0x9E], None),
+    Length(238, [0x00, 0xF9], None),
+    Length(239, [0xBC, 0xC3], Some((3, 239))),
+    Length(240, [0x61, 0xBC], Some((3, 240))),
 ];

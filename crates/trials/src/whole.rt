@@ -9,46 +9,26 @@ pub(crate) const BEFORE: u8 = 0xEE;
 
 // Whether the buffer holds the string, and behind it what it held before.
 pub(crate) fn holds(buffer: &[u8], string: &[u8]) -> bool {
-    for (place, octet) in buffer.iter().enumerate() {
-        let expected = match string.get(place) {
-            Some(expected) => *expected,
-            None => BEFORE,
-        };
-        if *octet != expected {
-            return false;
-        }
-    }
-    string.len() <= buffer.len()
+    buffer
+        .strip_prefix(string)
+        .is_some_and(|behind| behind.iter().all(|octet| *octet == BEFORE))
 }
 
 // Whether the octets carry these characters.
 fn carry(octets: &[u8], characters: &[u8]) -> bool {
-    for (index, octet) in octets.iter().enumerate() {
-        match characters.get(index) {
-            Some(character) => {
-                if character_of(*octet) != *character {
-                    return false;
-                }
-            }
-            None => return false,
-        }
-    }
     octets.len() == characters.len()
-}
-
-fn named(acknowledgment: Option<Identifier>) -> u8 {
-    match acknowledgment {
-        Some(identifier) => identifier.0,
-        None => 0,
-    }
+        && octets
+            .iter()
+            .zip(characters)
+            .all(|(octet, character)| character_of(*octet) == *character)
 }
 
 // Whether a block that was read has the fields of one given to write.
 fn same(read: &Block<'_>, given: &Block<'_>) -> bool {
     carry(read.address(), given.address())
-        && named(read.acknowledgment()) == named(given.acknowledgment())
+        && read.acknowledgment() == given.acknowledgment()
         && carry(read.label(), given.label())
-        && read.identifier().0 == given.identifier().0
+        && read.identifier() == given.identifier()
         && read.is_last() == given.is_last()
         && carry(read.text(), given.text())
 }
@@ -56,18 +36,12 @@ fn same(read: &Block<'_>, given: &Block<'_>) -> bool {
 // Whether the block is written as the string, and what stands behind it in the buffer is left.
 pub(crate) fn is_written<D: Direction>(block: &Block<'_>, string: &[u8]) -> bool {
     let mut buffer = [BEFORE; 240];
-    match write::<D>(block, &mut buffer) {
-        Ok(length) => length == string.len() && holds(&buffer, string),
-        Err(_) => false,
-    }
+    write::<D>(block, &mut buffer) == Ok(string.len()) && holds(&buffer, string)
 }
 
 // Whether the block is written as the string, and the string read as the block.
 fn is_block<D: Direction>(block: &Block<'_>, string: &[u8]) -> bool {
-    match read::<D>(string) {
-        Ok(found) => is_written::<D>(block, string) && same(&found, block),
-        Err(_) => false,
-    }
+    is_written::<D>(block, string) && read::<D>(string).is_ok_and(|found| same(&found, block))
 }
 
 #[test]
