@@ -60,11 +60,7 @@ counting_cat a (suc k) m = rw suc-add (ap (λ (xs : List ℕ). a ∷ xs) (counti
 
 module _ (g : ℕ → ℕ) where
   acknowledged : acknowledgment_character (acknowledgment_of (g 9)) ≡ g 9
-  acknowledged = go (eqb (g 9) 21) refl
-    where
-      go : (t : Bool) → eqb (g 9) 21 ≡ t → acknowledgment_character (cond t None (Some (g 9))) ≡ g 9
-      go true e = sym (eqb-true (g 9) 21 e)
-      go false e = refl
+  acknowledged = grind (arith, nat_tests)
 
   -- the head lies at places 1 to 12
   pub head_laid : (a b : ℕ) (rest : List ℕ) → g 1 ≡ 50 → a ≡ g 10 → b ≡ g 11 → headed (head_at g) (a ∷ b ∷ []) rest ≡ map g (range_with_len 1 12) ++ rest

@@ -16,11 +16,7 @@ use Rattle.blocks.proofs.Shapes.{Lawful, Shaped, twelve, head_at, fields_if, fie
 
 -- an acknowledgment read from a character that its rule allows is sound
 acknowledges_of : (r : RingRule) (c : ℕ) → (eqb c 21 || member r c) ≡ true → acknowledges r (acknowledgment_of c) ≡ true
-acknowledges_of r c h = go (eqb c 21) refl
-  where
-    go : (t : Bool) → eqb c 21 ≡ t → acknowledges r (cond t None (Some c)) ≡ true
-    go true e = refl
-    go false e = let k : (false || member r c) ≡ true = subst (λ (b : Bool). (b || member r c) ≡ true) e h in k
+acknowledges_of r c h = grind (arith, nat_tests)
 
 length_fits : (t : TextRule) → t.opening + t.room ≡ 220 → (last : Bool) (m : ℕ) → t.opening ≤ m → m ≤ 220 → 0 < m → text_length t last m ≡ true
 length_fits t f last m a b c = grind (arith, nat_tests)
