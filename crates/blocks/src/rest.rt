@@ -68,8 +68,10 @@ impl<'a> Frame<'a> {
         }
         let text = &self.string[14..end];
         match self.character(end) {
-            ETX => Ok(RestRead { last: true, text }),
-            ETB => Ok(RestRead { last: false, text }),
+            suffix @ (ETX | ETB) => Ok(RestRead {
+                last: suffix == ETX,
+                text,
+            }),
             _ => Err(BlockFault::Rest { place: end }),
         }
     }

@@ -1,4 +1,4 @@
-use Rattle.std.proofs.Common.{◌≡◌, ℕ, ◌++◌, List, length, drop, sym, ap, ◌∙◌}
+use Rattle.std.proofs.Common.{◌≡◌, ℕ, ◌++◌, List, length, drop, ap, ◌∙◌}
 use Rattle.blocks.specs.Fields.{fields_given, written}
 use Rattle.blocks.specs.Legal.{Way}
 use Rattle.blocks.proofs.Shapes.{Lawful}

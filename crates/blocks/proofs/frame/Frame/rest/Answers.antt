@@ -1,4 +1,4 @@
-use Rattle.std.proofs.Common.{◌≡◌, ◌+◌, ◌-◌, ◌<◌, true, length, Some, None, refl, inl, rules, arith}
+use Rattle.std.proofs.Common.{◌≡◌, ◌+◌, ◌-◌, true, length, refl, inl, rules, arith}
 use Rattle.blocks.specs.Legal.{Way}
 use Rattle.blocks.specs.Places.{possible}
 use Rattle.blocks.proofs.Steps.{usable}
@@ -19,13 +19,6 @@ returns-in-Some g c =
 
 pub returns-in-3-character : goal.returns-in-3-character
 returns-in-3-character g c =
-    let s = c.args.self.string.now in
-    let fits : possible (way g) c.args.response (length s) ≡ true = search rules in
-    let long = usable (way g) c.args.response (length s) fits c.if-length-eq17.false in
-    (fits, rest_kept (way g) s long (search rules) c.in_default-text_fault.ensures (search rules), record { last = search rules; text = refl })
-
-pub returns-in-23 : goal.returns-in-23
-returns-in-23 g c =
     let s = c.args.self.string.now in
     let fits : possible (way g) c.args.response (length s) ≡ true = search rules in
     let long = usable (way g) c.args.response (length s) fits c.if-length-eq17.false in
