@@ -1,17 +1,16 @@
 -- Sound fields lay out characters that keep the rules of their places, and those make the fields again. Assumes nothing.
-use Rattle.std.proofs.Common.{◌≡◌, ℕ, suc, ◌+◌, ◌-◌, ◌<◌, ◌≤◌, Bool, true, false, ◌&&◌, ◌||◌, eqb, ltb, leb, List, [], ◌∷◌, ◌++◌, map, length, Some, None, Option, sym, refl, ap, ◌∙◌, subst, inl, inr, arith, lit≤, length-append}
+use Rattle.std.proofs.Common.{◌≡◌, ℕ, suc, ◌+◌, ◌-◌, ◌<◌, ◌≤◌, Bool, true, false, ◌&&◌, ◌||◌, eqb, List, [], ◌∷◌, ◌++◌, map, length, Some, None, Option, sym, refl, ap, ◌∙◌, subst, inl, inr, arith, lit≤, length-append}
 use Rattle.std.specs.List.{range_with_len}
 use Rattle.std.proofs.lemmas.List.FromFn.{length-map-range_with_len, get_or-map-range_with_len, fill_by_all}
 use Rattle.std.proofs.lemmas.List.{get_or-drop, get_or_append_left, get_or_at, ext_get_or}
-use Rattle.std.proofs.lemmas.Bool.{and_parts, cases_lt, cases_order, eq-eqb, ne_eqb, or_left, or_right, leb-true}
+use Rattle.std.proofs.lemmas.Bool.{cases_lt, cases_order, eq-eqb, or_left, or_right}
 use Rattle.std.proofs.lemmas.Bool.Decides.{nat_tests}
 use Rattle.directions.specs.Rings.{RingRule, member, Cyclic}
 use Rattle.blocks.specs.Fields.{Head, Fields, response, message, laid, suffix, acknowledgment_character}
 use Rattle.blocks.specs.Legal.{Way, at, acknowledges, is_label, text_allows, text_length, Sound}
 use Rattle.blocks.specs.Places.{place_rule, possible, is_response, acknowledgment_of}
-use Rattle.blocks.proofs.Steps.{range_more}
+use Rattle.blocks.proofs.Steps.{range_more, text_rule, suffix_rule, start_rule}
 use Rattle.blocks.proofs.Shapes.{Lawful, Shaped, twelve, head_at, fields_if, fields_at}
-use Rattle.blocks.proofs.Sounds.{text_rule, suffix_rule, start_rule}
 
 -- the characters of fields by place, and how many octets they make
 abbrev pub chars_of : Fields → ℕ → ℕ
@@ -32,11 +31,7 @@ acknowledgment_rule r (Some c) h = or_right (eqb c 21) (member r c) h
 -- an identifier of a ring is not NAK
 acknowledgment_again : (r : RingRule) → Cyclic r → (a : Option ℕ) → acknowledges r a ≡ true → acknowledgment_of (acknowledgment_character a) ≡ a
 acknowledgment_again r l None h = refl
-acknowledgment_again r l (Some c) h =
-    let low : r.first ≤ c = leb-true r.first c (and_parts (leb r.first c) (ltb c (r.first + r.size)) h).0 in
-    let p = l.printable in
-    let e : eqb c 21 ≡ false = ne_eqb c 21 (λ q. omega arith) in
-    rw e
+acknowledgment_again r l (Some c) h = let p = l.printable in grind (arith, nat_tests)
 
 -- a list of seven, and of two, by its elements
 seven : (xs : List ℕ) → length xs ≡ 7 → xs ≡ map (at xs) (range_with_len 0 7)
@@ -163,7 +158,7 @@ module _ (w : Way) (lw : Lawful w) (a b c d e f g i : ℕ) (k : Option ℕ) wher
         let j : ℕ = p - 14 in
         let e : 14 + j ≡ p = omega arith in
         let v : j < length T = omega (arith, n_is) in
-        text_rule w lw (chars_of full) (size_of full) p (chars_of full (p - 1)) (chars_of full p) l m (λ z. omega (arith, n_is)) ∙
+        text_rule w (size_of full) p (chars_of full (p - 1)) (chars_of full p) l m (λ z. omega (arith, n_is)) ∙
         subst (λ (q : ℕ). text_allows w.text j (chars_of full (q - 1)) (chars_of full q) ≡ true) e
         (subst (λ (z : ℕ). text_allows w.text j (chars_of full (14 + j - 1)) z ≡ true) (sym (text_char j v))
         (subst (λ (z : ℕ). text_allows w.text j z (at T j) ≡ true) (sym (before_char j v)) (s.text.1 j v)))
@@ -174,7 +169,7 @@ module _ (w : Way) (lw : Lawful w) (a b c d e f g i : ℕ) (k : Option ℕ) wher
     rest_kept : (p : ℕ) → 13 ≤ p → p < size_of full - 3 → place_rule w (size_of full) p (chars_of full (p - 1)) (chars_of full p) ≡ true
     rest_kept p l m =
         elim (cases_order p (size_of full - 4)) [
-          | inl e ↦ suffix_rule w lw (chars_of full) (size_of full) p (chars_of full (p - 1)) (chars_of full p) e long ∙
+          | inl e ↦ suffix_rule w (size_of full) p (chars_of full (p - 1)) (chars_of full p) e long ∙
               ap (λ (z : ℕ). eqb z 3 || eqb z 23) (suffix_char p e) ∙ suffix_allowed last
           | inr o ↦ elim o [ inl v ↦ inner p l v | inr v ↦ absurd (omega (arith, n_is)) ]
         ]
@@ -185,13 +180,11 @@ module _ (w : Way) (lw : Lawful w) (a b c d e f g i : ℕ) (k : Option ℕ) wher
               | inl q ↦ text_kept p q v
               | inr q ↦ let e : 13 ≡ p = omega arith in
                   subst (λ (z : ℕ). place_rule w (size_of full) z (chars_of full (z - 1)) (chars_of full z) ≡ true) e
-                  (start_rule w lw (chars_of full) (size_of full) (chars_of full 12) 2 long)
+                  (start_rule w (size_of full) (chars_of full 12) 2 long)
             ]
 
     limits : text_length w.text last (length T) ≡ true → (w.text.opening ≤ length T) × (length T ≤ w.text.opening + w.text.room)
-    limits q =
-        let p = and_parts (leb w.text.opening (length T)) _ q in
-        (leb-true _ _ p.0, leb-true _ _ (and_parts (leb (length T) (w.text.opening + w.text.room)) _ p.1).0)
+    limits q = (grind (arith, nat_tests), grind (arith, nat_tests))
 
     possible_here : possible w false (size_of full) ≡ true
     possible_here =

@@ -1,7 +1,9 @@
+pub mod Readings
+pub mod Rests
+pub mod Scanning
 pub mod Steps
 pub mod Fills
 pub mod Layouts
-pub mod Readings
 pub mod Shapes
 pub mod Sounds
 pub mod Strings

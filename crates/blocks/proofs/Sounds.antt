@@ -1,50 +1,27 @@
 -- Characters that keep the rules of their places make sound fields, which lay them out again. Assumes nothing.
-use Rattle.std.proofs.Common.{◌≡◌, ℕ, zero, suc, ◌+◌, ◌-◌, ◌<◌, ◌≤◌, Bool, true, false, cond, ◌&&◌, ◌||◌, eqb, ltb, leb, List, [], ◌∷◌, ◌++◌, map, length, Some, None, sym, refl, ap, ◌∙◌, subst, inl, inr, arith, lit<, lit≤}
+use Rattle.std.proofs.Common.{◌≡◌, ℕ, zero, suc, ◌+◌, ◌-◌, ◌<◌, ◌≤◌, Bool, true, false, ◌&&◌, ◌||◌, eqb, ltb, leb, List, [], ◌∷◌, ◌++◌, map, length, sym, refl, ap, ◌∙◌, subst, inl, inr, arith, lit<, lit≤}
 use Rattle.std.specs.List.{range_with_len}
 use Rattle.std.proofs.lemmas.List.FromFn.{length-map-range_with_len, get_or-map-range_with_len}
-use Rattle.std.proofs.lemmas.Bool.{eqb-true, and_parts, cases_eq, ne_eqb, lt-ltb, le-ltb, leb-true, ltb-true}
+use Rattle.std.proofs.lemmas.Bool.{eqb-true, and_parts, cases_eq, ne_eqb, leb-true, ltb-true}
 use Rattle.std.proofs.lemmas.Bool.Decides.{nat_tests}
 use Rattle.directions.specs.Rings.{RingRule, member}
 use Rattle.directions.specs.TextRules.{TextRule}
 use Rattle.blocks.specs.Fields.{response, message, headed, tailed, laid, enclosed}
 use Rattle.octets.specs.Parity.{octet}
 use Rattle.blocks.specs.Legal.{Way, at, acknowledges, is_label, text_allows, text_length, head_allows, Sound, TextKept, Legal}
-use Rattle.blocks.specs.Places.{Kept, place_rule, possible, is_response, acknowledgment_of}
+use Rattle.blocks.specs.Places.{Kept, possible, is_response, acknowledgment_of}
+use Rattle.blocks.proofs.Steps.{text_rule, suffix_rule, start_rule}
 use Rattle.blocks.proofs.Strings.{chars, string_of}
 use Rattle.blocks.proofs.Shapes.{Lawful, Shaped, twelve, head_at, fields_if, fields_at, head_laid, all_laid, tail_laid}
 
 -- an acknowledgment read from a character that its rule allows is sound
 acknowledges_of : (r : RingRule) (c : ℕ) → (eqb c 21 || member r c) ≡ true → acknowledges r (acknowledgment_of c) ≡ true
-acknowledges_of r c h = go (eqb c 21) refl
-  where
-    go : (t : Bool) → eqb c 21 ≡ t → acknowledges r (cond t None (Some c)) ≡ true
-    go true e = refl
-    go false e = let k : (false || member r c) ≡ true = subst (λ (b : Bool). (b || member r c) ≡ true) e h in k
+acknowledges_of r c h = grind (arith, nat_tests)
 
 length_fits : (t : TextRule) → t.opening + t.room ≡ 220 → (last : Bool) (m : ℕ) → t.opening ≤ m → m ≤ 220 → 0 < m → text_length t last m ≡ true
 length_fits t f last m a b c = grind (arith, nat_tests)
 
 module _ (w : Way) (l : Lawful w) (g : ℕ → ℕ) where
-  -- the rule of a text character
-  pub text_rule : (n p before c : ℕ) → 14 ≤ p → p < n - 4 → (n ≡ 17 → ⊥) → place_rule w n p before c ≡ text_allows w.text (p - 14) before c
-  text_rule n p before c h u ne =
-      let a : ltb p 13 ≡ false = le-ltb p 13 (omega arith) in
-      let b : eqb n 17 ≡ false = ne_eqb n 17 ne in
-      let d : eqb p 13 ≡ false = ne_eqb p 13 (λ e. omega arith) in
-      let f : ltb p (n - 4) ≡ true = lt-ltb p (n - 4) u in
-      rw (a, b, d, f)
-
-  pub suffix_rule : (n p before c : ℕ) → p ≡ n - 4 → 18 < n → place_rule w n p before c ≡ (eqb c 3 || eqb c 23)
-  suffix_rule n p before c e h =
-      let a : ltb p 13 ≡ false = le-ltb p 13 (omega arith) in
-      let b : eqb n 17 ≡ false = ne_eqb n 17 (λ q. omega arith) in
-      let d : eqb p 13 ≡ false = ne_eqb p 13 (λ q. omega arith) in
-      let f : ltb p (n - 4) ≡ false = le-ltb p (n - 4) (omega arith) in
-      rw (a, b, d, f)
-
-  pub start_rule : (n before c : ℕ) → 18 < n → place_rule w n 13 before c ≡ eqb c 2
-  start_rule n before c h = let b : eqb n 17 ≡ false = ne_eqb n 17 (λ q. omega arith) in rw b
-
   -- the head of a response, and of a message block
   head_of_response : (n : ℕ) → 17 ≤ n → Kept w n g 1 13 → (p : ℕ) → 1 ≤ p → p ≤ 12 → head_allows w (response (head_at g)) p ≡ true
   head_of_response n h k p a b =
@@ -106,7 +83,7 @@ module _ (w : Way) (l : Lawful w) (g : ℕ → ℕ) where
     text_at i h = get_or-map-range_with_len g 14 (n - 4 - 14) i (14 + i) 0 h refl
 
     started : g 13 ≡ 2
-    started = eqb-true (g 13) 2 (sym (start_rule n (g 12) (g 13) least) ∙ k 13 (lit≤ tt) (omega arith))
+    started = eqb-true (g 13) 2 (sym (start_rule w n (g 12) (g 13) least) ∙ k 13 (lit≤ tt) (omega arith))
 
     before_at : (i : ℕ) → i < n - 4 - 14 → at (2 ∷ text) i ≡ g (14 + i - 1)
     before_at zero h = sym started
@@ -119,7 +96,7 @@ module _ (w : Way) (l : Lawful w) (g : ℕ → ℕ) where
       λ i h.
           let u : i < n - 4 - 14 = omega (arith, text_long) in
           let r = k (14 + i) (omega arith) (omega arith) in
-          let q : text_allows w.text (14 + i - 14) (g (14 + i - 1)) (g (14 + i)) ≡ true = sym (text_rule n (14 + i) (g (14 + i - 1)) (g (14 + i)) (omega arith) (omega arith) (λ z. omega arith)) ∙ r in
+          let q : text_allows w.text (14 + i - 14) (g (14 + i - 1)) (g (14 + i)) ≡ true = sym (text_rule w n (14 + i) (g (14 + i - 1)) (g (14 + i)) (omega arith) (omega arith) (λ z. omega arith)) ∙ r in
           let z : 14 + i - 14 ≡ i = omega arith in
           subst (λ (c : ℕ). text_allows w.text i (at (2 ∷ text) i) c ≡ true) (sym (text_at i u))
           (subst (λ (b : ℕ). text_allows w.text i b (g (14 + i)) ≡ true) (sym (before_at i u))
@@ -131,7 +108,7 @@ module _ (w : Way) (l : Lawful w) (g : ℕ → ℕ) where
         let h : Kept w n g 1 13 = λ p a b. k p a (omega arith) in
         let e : n - 4 - 14 ≡ suc (n - 19) = omega arith in
         let e₂ : suc (suc (suc (n - 19))) ≡ n - 16 = omega arith in
-        let s = sym (suffix_rule n (n - 4) (g (n - 4 - 1)) (g (n - 4)) refl least) ∙ k (n - 4) (omega arith) (omega arith) in
+        let s = sym (suffix_rule w n (n - 4) (g (n - 4 - 1)) (g (n - 4)) refl least) ∙ k (n - 4) (omega arith) (omega arith) in
         let tl : tailed (eqb (g (n - 4)) 3) text ≡ map g (range_with_len 13 (n - 16)) =
         ap (λ (j : ℕ). tailed (eqb (g (n - 4)) 3) (map g (range_with_len 14 j))) e ∙
         tail_laid g (n - 19) (n - 4) (omega arith) started s ∙ ap (λ (j : ℕ). map g (range_with_len 13 j)) e₂ in

@@ -12,7 +12,7 @@ pub record Way : Type 0 where
   pub text : TextRule
 
 -- the way of a direction, by the members of its trait and the other direction's ring
-abbrev pub way : record {ring : RingRule; text : TextRule} → RingRule → Way
+abbrev pub way : record { ring : RingRule; text : TextRule } → RingRule → Way
 way d other = record { own = d.ring; other = other; text = d.text }
 
 -- what stands at a place; 0 past the end

@@ -1,18 +1,16 @@
 -- The rules of a block place by place, as reading asks them of a string.
 -- Assumes nothing.
 use Rattle.std.specs.Prelude.{◌≡◌, ℕ, ◌+◌, ◌-◌, ◌<◌, ◌≤◌, Bool, true, false, cond, ◌&&◌, ◌||◌, ◌⊎◌, List, length, take, drop, Some, None, Ok, Err, Option, Result, ◌==◌, nat_le, nat_lt}
+use Rattle.std.specs.Borrow.{Bor}
 use Rattle.octets.specs.Parity.{character, odd}
-use Rattle.directions.specs.Rings.{RingRule, member}
-use Rattle.directions.specs.declared.marks.Identifier.{Identifier}
+use Rattle.directions.specs.Rings.{member}
 use Rattle.blocks.specs.declared.fault.BlockFault.{BlockFault}
-use Rattle.blocks.specs.declared.fault.BlockFault.TheVariants.{Head}
-use Rattle.blocks.specs.declared.block.Block.{Block}
-use Rattle.blocks.specs.declared.block.Block.TheVariants.{Response, Message}
-use Rattle.blocks.specs.declared.head.HeadRead.{HeadRead}
+use Rattle.blocks.specs.declared.fault.BlockFault.TheVariants.{Head, Rest}
+use Rattle.blocks.specs.declared.parsed.HeadRead.{HeadRead}
+use Rattle.blocks.specs.declared.parsed.RestRead.{RestRead}
 use Rattle.blocks.specs.Fields.{named}
-use Rattle.blocks.specs.Faults.{number_of, place_of}
 use Rattle.blocks.specs.Legal.{Way, at, address_allows, is_label, text_allows}
-use Rattle.blocks.specs.Reading.{Outside, Framed, Refusal}
+use Rattle.blocks.specs.Reading.{Outside, Framed}
 
 -- the character at a place of a string
 abbrev pub ch : List ℕ → ℕ → ℕ
@@ -59,39 +57,10 @@ acknowledgment_of c = cond (c == 21) None (Some c)
 abbrev pub Octets : List ℕ → Type 0
 Octets s = (p : ℕ) → Outside s p → (odd (at s p) ≡ true) × (at s p < 256)
 
--- what the test of a string's frame answers
+-- the string is framed as a block, of octets
 pub record FrameKept (s : List ℕ) : Type 0 where
   pub framed : Framed s
   pub octets : Octets s
-
-abbrev pub Framing : List ℕ → Result (Unit {0}) BlockFault → Type 0
-Framing s (Ok _) = FrameKept s
-Framing s (Err f) = (w : Way) → Refusal w s (number_of f) (place_of f)
-
--- what reading the head answers: its parts, or the first place that breaks its rule
-pub record HeadKept (w : Way) (s : List ℕ) (h : HeadRead) : Type 0 where
-  pub kept : Kept w 17 (ch s) 1 13
-  pub address : h.address.now ≡ take 7 (drop 2 s)
-  pub label : h.label.now ≡ take 2 (drop 10 s)
-  pub acknowledgment : named h.acknowledgment ≡ acknowledgment_of (ch s 9)
-  pub identifier : h.identifier.0 ≡ ch s 12
-  pub response : h.response ≡ is_response (ch s 10) (ch s 11)
-
--- what the tests of the address, the acknowledgment and the label answer
-abbrev pub AddressKept : List ℕ → ℕ → Type 0
-AddressKept s b = (p : ℕ) → 2 ≤ p → p < b → address_allows (p - 2) (ch s (p - 1)) (ch s p) ≡ true
-
-abbrev pub AddressTested : List ℕ → Option ℕ → Type 0
-AddressTested s None = AddressKept s 9
-AddressTested s (Some p) = (2 ≤ p) × (p < 9) × AddressKept s p × (address_allows (p - 2) (ch s (p - 1)) (ch s p) ≡ false)
-
-abbrev pub AcknowledgmentRead : RingRule → ℕ → Option (Option Identifier) → Type 0
-AcknowledgmentRead r c None = (c == 21 || member r c) ≡ false
-AcknowledgmentRead r c (Some a) = ((c == 21 || member r c) ≡ true) × (named a ≡ acknowledgment_of c)
-
-abbrev pub LabelRead : ℕ → ℕ → Option Bool → Type 0
-LabelRead a b None = (is_label b || (b == 127 && a == 95)) ≡ false
-LabelRead a b (Some r) = ((is_label b || (b == 127 && a == 95)) ≡ true) × (r ≡ is_response a b)
 
 -- the first place from a on that breaks its rule
 pub record BrokenAt (w : Way) (n : ℕ) (s : List ℕ) (a p : ℕ) : Type 0 where
@@ -99,24 +68,38 @@ pub record BrokenAt (w : Way) (n : ℕ) (s : List ℕ) (a p : ℕ) : Type 0 wher
   pub kept : Kept w n (ch s) a p
   pub broken : place_rule w n p (ch s (p - 1)) (ch s p) ≡ false
 
--- a refusal of the head at its first broken place
-abbrev pub HeadBroken : Way → List ℕ → BlockFault → Type 0
-HeadBroken w s f = (p : ℕ) × (f ≡ Head p) × (p < 13) × BrokenAt w 17 s 1 p
+-- a refusal of the head at the first place from a on that breaks its rule
+abbrev pub HeadBroken : Way → List ℕ → ℕ → BlockFault → Type 0
+HeadBroken w s a f = (p : ℕ) × (f ≡ Head p) × (p < 13) × BrokenAt w 17 s a p
 
-abbrev pub Heading : Way → List ℕ → Result HeadRead BlockFault → Type 0
-Heading w s (Ok h) = HeadKept w s h
-Heading w s (Err f) = HeadBroken w s f
+-- what reading the head from place a up to b, which is left out, answers: a value that Is the one there, or the first place that breaks its rule
+abbrev pub PartRead : {A : Type 0} → Way → List ℕ → ℕ → ℕ → (A → Type 0) → Result A BlockFault → Type 0
+PartRead w s a b Is (Ok x) = Kept w 17 (ch s) a b × Is x
+PartRead w s a b Is (Err f) = HeadBroken w s a f
 
--- what the test of the rest answers: nothing, or the first place that breaks its rule
-abbrev pub RestTested : Way → Bool → List ℕ → Option ℕ → Type 0
-RestTested w response s None = (possible w response (length s) ≡ true) × Kept w (length s) (ch s) 13 (length s - 3)
-RestTested w response s (Some p) =
+-- the label of a message; none where the string has a response's
+abbrev pub LabelIs : List ℕ → Option (Bor (List ℕ)) → Type 0
+LabelIs s None = is_response (ch s 10) (ch s 11) ≡ true
+LabelIs s (Some l) = (is_response (ch s 10) (ch s 11) ≡ false) × (l.now ≡ take 2 (drop 10 s))
+
+-- the parts of the head
+pub record HeadIs (s : List ℕ) (h : HeadRead) : Type 0 where
+  pub address : h.address.now ≡ take 7 (drop 2 s)
+  pub acknowledgment : named h.acknowledgment ≡ acknowledgment_of (ch s 9)
+  pub label : LabelIs s h.label
+  pub identifier : h.identifier.0 ≡ ch s 12
+
+-- the parts of the rest
+pub record RestIs (s : List ℕ) (r : RestRead) : Type 0 where
+  pub last : r.last ≡ (ch s (length s - 4) == 3)
+  pub text : r.text.now ≡ take (length s - 4 - 14) (drop 14 s)
+
+-- what reading the rest answers: its parts, or the first place that breaks its rule, which is 13 where no block has that length
+abbrev pub RestBroken : Way → Bool → List ℕ → ℕ → Type 0
+RestBroken w response s p =
     ((possible w response (length s) ≡ true) × (p < length s - 3) × BrokenAt w (length s) s 13 p) ⊎
     ((possible w response (length s) ≡ false) × (p ≡ 13))
 
--- the block of a head and the rest of its string
-abbrev pub Assembled : List ℕ → HeadRead → Block → Type 0
-Assembled s h (Response a k i) = (h.response ≡ true) × (a ≡ h.address) × (k ≡ h.acknowledgment) × (i ≡ h.identifier)
-Assembled s h (Message a k l i e t) =
-    (h.response ≡ false) × (a ≡ h.address) × (k ≡ h.acknowledgment) × (l ≡ h.label) × (i ≡ h.identifier) ×
-    (e ≡ (ch s (length s - 4) == 3)) × (t.now ≡ take (length s - 4 - 14) (drop 14 s))
+abbrev pub RestTested : Way → Bool → List ℕ → Result RestRead BlockFault → Type 0
+RestTested w response s (Ok r) = (possible w response (length s) ≡ true) × Kept w (length s) (ch s) 13 (length s - 3) × RestIs s r
+RestTested w response s (Err f) = (p : ℕ) × (f ≡ Rest p) × RestBroken w response s p

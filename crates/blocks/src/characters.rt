@@ -18,6 +18,9 @@ pub const DEL: u8 = 0x7F;
 
 pub const MODE: u8 = b'2';
 
+// The label of a general response.
+pub(crate) const RESPONSE_LABEL: [u8; 2] = [0x5F, 0x7F];
+
 // A–Z, 0–9 or a hyphen.
 fn is_address(character: u8) -> bool
     ensures { result ≡ is_address character }
@@ -36,14 +39,14 @@ pub fn address_allows(index: usize, before: u8, character: u8) -> bool
 pub fn is_label(character: u8) -> bool
     ensures { result ≡ is_label character }
 {
-    0x21 <= character && character <= 0x7E
+    character.is_ascii_graphic()
 }
 
 // A text character.
 pub fn is_text(character: u8) -> bool
     ensures { result ≡ is_text character }
 {
-    0x20 <= character && character <= 0x7E || character == 0x0A || character == 0x0D
+    matches!(character, b' '..=b'~' | b'\n' | b'\r')
 }
 
 // Whether a character may stand at an index of the text after the one before.

@@ -1,95 +1,91 @@
 // Reading the head of a block, places 1 to 12.
-ghost use Rattle.std.specs.Prelude.{◌≡◌, ◌+◌, ◌≤◌, length, take, drop};
-ghost use Rattle.blocks.specs.Places.{AddressTested, AcknowledgmentRead, LabelRead, Heading};
-ghost use Rattle.blocks.specs.Legal.{way};
+ghost use Rattle.std.specs.Prelude.{◌≡◌, take, drop};
+ghost use Rattle.blocks.specs.Fields.{named};
+ghost use Rattle.blocks.specs.Legal.{Way, way};
+ghost use Rattle.blocks.specs.Places.{ch, PartRead, LabelIs, HeadIs, acknowledgment_of};
 
-use crate::characters::{MODE, NAK, address_allows, is_label};
+use crate::characters::{MODE, NAK, RESPONSE_LABEL, address_allows, is_label};
 use crate::fault::BlockFault;
-use crate::head::HeadRead;
+use crate::frame::Frame;
+use crate::parsed::HeadRead;
+use crate::scan::first_fault;
 use directions::{Direction, Identifier, Ring};
 use octets::character_of;
 
-// The first place of the address that breaks its rule.
-fn address_fault(string: &[u8]) -> Option<usize>
-    requires { 17 ≤ length string.now }
-    ensures { AddressTested string.now result }
-{
-    for place in 2..9usize {
-        let before = character_of(string[place - 1]);
-        if !address_allows(place - 2, before, character_of(string[place])) {
-            return Some(place);
+impl<'a> Frame<'a> {
+    // The address, at places 2 to 8.
+    fn address(self) -> Result<&'a [u8; 7], BlockFault>
+        ensures { (w : Way) → PartRead w self.entry.string.now 2 9 (λ a. a.now ≡ take 7 (drop 2 self.entry.string.now)) result }
+    {
+        let address = self.part::<7>(2);
+        let fault = first_fault(self.string[1], address, |index, before, octet| {
+            address_allows(index, character_of(before), character_of(octet))
+        });
+        match fault {
+            Some(index) => Err(BlockFault::Head { place: 2 + index }),
+            None => Ok(address),
         }
     }
-    None
-}
 
-// The acknowledgment that a character is: none for NAK, an identifier of the ring, or neither.
-fn acknowledgment<R: Ring>(character: u8) -> Option<Option<Identifier>>
-    ensures { AcknowledgmentRead R.Ring.ring character result }
-{
-    if character == NAK {
-        Some(None)
-    } else if R::holds(Identifier(character)) {
-        Some(Some(Identifier(character)))
-    } else {
-        None
+    // The acknowledgment, at place 9: none for NAK, else an identifier of the other direction.
+    fn acknowledgment<D: Direction>(self) -> Result<Option<Identifier>, BlockFault>
+        ensures { PartRead (way D.Direction D.Other.Ring.ring) self.entry.string.now 9 10 (λ a. named a ≡ acknowledgment_of (ch self.entry.string.now 9)) result }
+    {
+        let identifier = Identifier(self.character(9));
+        if identifier.0 == NAK {
+            Ok(None)
+        } else if D::Other::holds(identifier) {
+            Ok(Some(identifier))
+        } else {
+            Err(BlockFault::Head { place: 9 })
+        }
     }
-}
 
-// Whether the label is a response's, told that its first character may stand in a label; none where the second may not follow the first.
-fn response_label(first: u8, second: u8) -> Option<bool>
-    ensures { LabelRead first second result }
-{
-    if is_label(second) {
-        Some(false)
-    } else if first == 0x5F && second == 0x7F {
-        Some(true)
-    } else {
-        None
+    // The label of a message, at places 10 and 11; none for a response's.
+    fn label(self) -> Result<Option<&'a [u8; 2]>, BlockFault>
+        ensures { (w : Way) → PartRead w self.entry.string.now 10 12 (LabelIs self.entry.string.now) result }
+    {
+        let first = self.character(10);
+        let second = self.character(11);
+        if !is_label(first) {
+            Err(BlockFault::Head { place: 10 })
+        } else if is_label(second) {
+            Ok(Some(self.part::<2>(10)))
+        } else if [first, second] == RESPONSE_LABEL {
+            Ok(None)
+        } else {
+            Err(BlockFault::Head { place: 11 })
+        }
     }
-}
 
-// The N octets of the string from a place on.
-fn part<const N: usize>(string: &[u8], start: usize) -> &[u8; N]
-    requires { start + N ≤ length string.now }
-    ensures { result.now ≡ take N (drop start string.now) }
-{
-    let Some((octets, _)) = string[start..].split_first_chunk::<N>() else {
-        return unreachable();
-    };
-    octets
-}
-
-// Reads the head. The first field that fails ends the reading.
-pub(crate) fn read_head<'a, D: Direction>(string: &'a [u8]) -> Result<HeadRead<'a>, BlockFault>
-    requires { 17 ≤ length string.now }
-    ensures { Heading (way D.Direction D.Other.Ring.ring) string.now result }
-{
-    let MODE = character_of(string[1]) else {
-        return Err(BlockFault::Head { place: 1 });
-    };
-    if let Some(place) = address_fault(string) {
-        return Err(BlockFault::Head { place });
+    // The block's own identifier, at place 12.
+    fn identifier<D: Direction>(self) -> Result<Identifier, BlockFault>
+        ensures { PartRead (way D.Direction D.Other.Ring.ring) self.entry.string.now 12 13 (λ i. i.0 ≡ ch self.entry.string.now 12) result }
+    {
+        let identifier = Identifier(self.character(12));
+        if D::holds(identifier) {
+            Ok(identifier)
+        } else {
+            Err(BlockFault::Head { place: 12 })
+        }
     }
-    let Some(acknowledgment) = acknowledgment::<D::Other>(character_of(string[9])) else {
-        return Err(BlockFault::Head { place: 9 });
-    };
-    let first = character_of(string[10]);
-    let true = is_label(first) else {
-        return Err(BlockFault::Head { place: 10 });
-    };
-    let Some(response) = response_label(first, character_of(string[11])) else {
-        return Err(BlockFault::Head { place: 11 });
-    };
-    let identifier = Identifier(character_of(string[12]));
-    let true = D::holds(identifier) else {
-        return Err(BlockFault::Head { place: 12 });
-    };
-    Ok(HeadRead {
-        address: part::<7>(string, 2),
-        acknowledgment,
-        label: part::<2>(string, 10),
-        identifier,
-        response,
-    })
+
+    // The head. The first field that fails ends the reading.
+    pub(crate) fn head<D: Direction>(self) -> Result<HeadRead<'a>, BlockFault>
+        ensures { PartRead (way D.Direction D.Other.Ring.ring) self.entry.string.now 1 13 (HeadIs self.entry.string.now) result }
+    {
+        if self.character(1) != MODE {
+            return Err(BlockFault::Head { place: 1 });
+        }
+        let address = self.address()?;
+        let acknowledgment = self.acknowledgment::<D>()?;
+        let label = self.label()?;
+        let identifier = self.identifier::<D>()?;
+        Ok(HeadRead {
+            address,
+            acknowledgment,
+            label,
+            identifier,
+        })
+    }
 }

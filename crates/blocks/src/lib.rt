@@ -5,12 +5,13 @@ mod block;
 mod characters;
 mod fault;
 mod frame;
-mod head;
 mod heading;
 mod numbers;
+mod parsed;
 mod parts;
 mod reading;
 mod rest;
+mod scan;
 
 pub use block::Block;
 pub use characters::{
@@ -18,3 +19,4 @@ pub use characters::{
 };
 pub use fault::BlockFault;
 pub use reading::read;
+pub use scan::{address_fault, text_fault};

@@ -26,12 +26,12 @@ impl BlockFault {
     {
         match self {
             BlockFault::Buffer => None,
-            BlockFault::Length { place } => Some(*place),
-            BlockFault::Parity { place } => Some(*place),
-            BlockFault::Delimiter { place } => Some(*place),
-            BlockFault::Check { place } => Some(*place),
-            BlockFault::Head { place } => Some(*place),
-            BlockFault::Rest { place } => Some(*place),
+            BlockFault::Length { place }
+            | BlockFault::Parity { place }
+            | BlockFault::Delimiter { place }
+            | BlockFault::Check { place }
+            | BlockFault::Head { place }
+            | BlockFault::Rest { place } => Some(*place),
         }
     }
 }

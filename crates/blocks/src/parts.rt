@@ -3,18 +3,15 @@ ghost use Rattle.std.specs.Prelude.{◌≡◌};
 ghost use Rattle.blocks.specs.Fields.{fields_given, head_of, label_of, last_of, text_of, named};
 
 use crate::block::Block;
+use crate::characters::RESPONSE_LABEL;
 use directions::Identifier;
-
-// The label of a general response.
-const RESPONSE_LABEL: [u8; 2] = [0x5F, 0x7F];
 
 impl<'a> Block<'a> {
     pub fn address(&self) -> &'a [u8; 7]
         ensures { result.now ≡ (head_of (fields_given self.now)).address }
     {
         match self {
-            Block::Response { address, .. } => *address,
-            Block::Message { address, .. } => *address,
+            Block::Response { address, .. } | Block::Message { address, .. } => *address,
         }
     }
 
@@ -22,8 +19,8 @@ impl<'a> Block<'a> {
         ensures { named result ≡ (head_of (fields_given self.now)).acknowledgment }
     {
         match self {
-            Block::Response { acknowledgment, .. } => *acknowledgment,
-            Block::Message { acknowledgment, .. } => *acknowledgment,
+            Block::Response { acknowledgment, .. } | Block::Message { acknowledgment, .. } =>
+                *acknowledgment,
         }
     }
 
@@ -31,8 +28,7 @@ impl<'a> Block<'a> {
         ensures { result.0 ≡ (head_of (fields_given self.now)).identifier }
     {
         match self {
-            Block::Response { identifier, .. } => *identifier,
-            Block::Message { identifier, .. } => *identifier,
+            Block::Response { identifier, .. } | Block::Message { identifier, .. } => *identifier,
         }
     }
 

@@ -1,5 +1,5 @@
 pub mod Frames
-pub mod Placing
+pub mod Laid
 pub mod Refused
 pub mod Tests
 pub mod Trips

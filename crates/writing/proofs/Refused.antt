@@ -124,62 +124,28 @@ module _ (w : Way) (s : List ℕ) where
         | inr x ↦ elim q.broken [ inl y ↦ absurd (y.1 x.1) | inr y ↦ x.0 ∙ sym y.0 ]
       ]
 
+  -- a refusal by its number
+  told : {m j : ℕ} → Refused w s m j → Refusal w s m (Some j)
+  told (by_length r) = r
+  told (by_parity r) = r
+  told (by_delimiter r) = r
+  told (by_check r) = r
+  told (by_head r) = r
+  told (by_rest r) = r
+
+  also : {n m j : ℕ} → n ≡ m → Refused w s m j → Refusal w s n (Some j)
+  also {n} {m} {j} e q = subst (λ (z : ℕ). Refusal w s z (Some j)) (sym e) (told q)
+
   -- two refusals of one number stand at one place
   same_place : {n m k j : ℕ} → Refused w s n k → Refused w s m j → n ≡ m → k ≡ j
-  same_place {n} {m} {k} {j} (by_length p) q e = go q (sym e)
-    where
-      go : {m j : ℕ} → Refused w s m j → m ≡ 3 → k ≡ j
-      go (by_length q) e = p.place ∙ sym q.place
-      go (by_parity q) e = absurd (omega arith)
-      go (by_delimiter q) e = absurd (omega arith)
-      go (by_check q) e = absurd (omega arith)
-      go (by_head q) e = absurd (omega arith)
-      go (by_rest q) e = absurd (omega arith)
-  same_place {n} {m} {k} {j} (by_parity p) q e = go q (sym e)
-    where
-      go : {m j : ℕ} → Refused w s m j → m ≡ 4 → k ≡ j
-      go (by_length q) e = absurd (omega arith)
-      go {m} {j} (by_parity q) e = one_of k j (before_once k j p q) (before_once j k q p)
-      go (by_delimiter q) e = absurd (omega arith)
-      go (by_check q) e = absurd (omega arith)
-      go (by_head q) e = absurd (omega arith)
-      go (by_rest q) e = absurd (omega arith)
-  same_place {n} {m} {k} {j} (by_delimiter p) q e = go q (sym e)
-    where
-      go : {m j : ℕ} → Refused w s m j → m ≡ 5 → k ≡ j
-      go (by_length q) e = absurd (omega arith)
-      go (by_parity q) e = absurd (omega arith)
-      go {m} {j} (by_delimiter q) e = delimiter_once k j p q
-      go (by_check q) e = absurd (omega arith)
-      go (by_head q) e = absurd (omega arith)
-      go (by_rest q) e = absurd (omega arith)
-  same_place {n} {m} {k} {j} (by_check p) q e = go q (sym e)
-    where
-      go : {m j : ℕ} → Refused w s m j → m ≡ 6 → k ≡ j
-      go (by_length q) e = absurd (omega arith)
-      go (by_parity q) e = absurd (omega arith)
-      go (by_delimiter q) e = absurd (omega arith)
-      go (by_check q) e = p.place ∙ sym q.place
-      go (by_head q) e = absurd (omega arith)
-      go (by_rest q) e = absurd (omega arith)
-  same_place {n} {m} {k} {j} (by_head p) q e = go q (sym e)
-    where
-      go : {m j : ℕ} → Refused w s m j → m ≡ 7 → k ≡ j
-      go (by_length q) e = absurd (omega arith)
-      go (by_parity q) e = absurd (omega arith)
-      go (by_delimiter q) e = absurd (omega arith)
-      go (by_check q) e = absurd (omega arith)
-      go {m} {j} (by_head q) e = one_of k j (first_once (Legal w) 1 k j p.first q.first) (first_once (Legal w) 1 j k q.first p.first)
-      go (by_rest q) e = absurd (omega arith)
-  same_place {n} {m} {k} {j} (by_rest p) q e = go q (sym e)
-    where
-      go : {m j : ℕ} → Refused w s m j → m ≡ 8 → k ≡ j
-      go (by_length q) e = absurd (omega arith)
-      go (by_parity q) e = absurd (omega arith)
-      go (by_delimiter q) e = absurd (omega arith)
-      go (by_check q) e = absurd (omega arith)
-      go (by_head q) e = absurd (omega arith)
-      go {m} {j} (by_rest q) e = one_of k j (first_once (Like w s) 13 k j p.first q.first) (first_once (Like w s) 13 j k q.first p.first)
+  same_place (by_length p) q e = p.place ∙ sym (also e q).place
+  same_place {n} {m} {k} {j} (by_parity p) q e = one_of k j (before_once k j p (also e q)) (before_once j k (also e q) p)
+  same_place {n} {m} {k} {j} (by_delimiter p) q e = delimiter_once k j p (also e q)
+  same_place (by_check p) q e = p.place ∙ sym (also e q).place
+  same_place {n} {m} {k} {j} (by_head p) q e =
+      one_of k j (first_once (Legal w) 1 k j p.first (also e q).first) (first_once (Legal w) 1 j k (also e q).first p.first)
+  same_place {n} {m} {k} {j} (by_rest p) q e =
+      one_of k j (first_once (Like w s) 13 k j p.first (also e q).first) (first_once (Like w s) 13 j k (also e q).first p.first)
 
   pub one_refused : {n m k j : ℕ} → Refused w s n k → Refused w s m j → (n ≡ m) × (k ≡ j)
   one_refused {n} {m} p q = let e : n ≡ m = one_of n m (earlier p q) (earlier q p) in (e, same_place p q e)

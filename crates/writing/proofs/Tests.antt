@@ -1,24 +1,36 @@
 -- How the tests of fields go on from place to place. Assumes nothing.
-use Rattle.std.proofs.Common.{◌≡◌, ℕ, suc, ◌+◌, ◌-◌, ◌<◌, ◌≤◌, true, false, ltb, List, ◌∷◌, Some, sym, ◌∙◌, subst, inl, inr, add-one, arith, lit≤}
-use Rattle.std.proofs.lemmas.Bool.{cases_lt, lt-ltb, le-ltb}
+use Rattle.std.proofs.Common.{◌≡◌, ℕ, suc, ◌+◌, ◌-◌, ◌<◌, ◌≤◌, true, false, ltb, List, ◌∷◌, length, Some, Option, sym, ◌∙◌, subst, inl, inr, arith, lit≤}
+use Rattle.std.proofs.lemmas.Bool.{cases_lt, lt-ltb}
+use Rattle.std.proofs.lemmas.Bool.Decides.{nat_tests}
 use Rattle.blocks.specs.Fields.{Fields, response, message, head_of}
 use Rattle.blocks.specs.Legal.{Way, at, address_allows, head_allows, label_allows, TextKept, Sound}
 use Rattle.blocks.proofs.Steps.{range_more}
 use Rattle.writing.specs.Writing.{HeadGood, HeadBad}
-use Rattle.writing.specs.Laying.{Lengths, AddressGood, LabelTested}
+use Rattle.blocks.specs.Scans.{index_or, FirstFault}
+use Rattle.writing.specs.Laying.{Lengths, LabelTested}
 
--- the element before the next index
-pub next_before : (x : ℕ) (xs : List ℕ) (i : ℕ) → at xs i ≡ at (x ∷ xs) (i + 1)
-next_before x xs i = rw add-one
+-- the address characters are as their rule asks, at the indices before i
+abbrev pub AddressGood : List ℕ → ℕ → Type 0
+AddressGood a i = (j : ℕ) → j < i → address_allows j (at (50 ∷ a) j) (at a j) ≡ true
+
+-- what the scan of an address tells
+module _ (xs a : List ℕ) (is : xs ≡ a) (long : length xs ≡ 7) where
+  abbrev Scan : Option ℕ → Type 0
+  Scan first = FirstFault (λ i b c t. t ≡ address_allows i b c) 50 xs first
+
+  pub address_kept : (first : Option ℕ) → Scan first → AddressGood a (index_or first 7)
+  address_kept first f j h =
+      sym (subst (λ (ys : List ℕ). true ≡ address_allows j (at (50 ∷ ys) j) (at ys j)) is
+      (f.kept j (subst (λ (n : ℕ). j < index_or first n) (sym long) h)))
+
+  pub address_bad : (i : ℕ) → Scan (Some i) → (i < 7) × (address_allows i (at (50 ∷ a) i) (at a i) ≡ false)
+  address_bad i f = (omega (arith, f.broken.0, long), sym (subst (λ (ys : List ℕ). false ≡ address_allows i (at (50 ∷ ys) i) (at ys i)) is f.broken.1))
 
 module _ (w : Way) (f : Fields) where
   -- places 2 to 8 are the address's
   pub address_place : (p : ℕ) → 2 ≤ p → p < 9 →
       head_allows w f p ≡ address_allows (p - 2) (at (50 ∷ (head_of f).address) (p - 2)) (at (head_of f).address (p - 2))
-  address_place p l u =
-      let a : ltb p 2 ≡ false = le-ltb p 2 l in
-      let b : ltb p 9 ≡ true = lt-ltb p 9 u in
-      rw (a, b)
+  address_place p l u = grind (arith, nat_tests)
 
   pub good_address : (i : ℕ) → i ≤ 7 → AddressGood (head_of f).address i → HeadGood w f (2 + i)
   good_address i h g q l u =

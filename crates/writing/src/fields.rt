@@ -1,67 +1,34 @@
 // The test of the fields of a block that is to be written.
-ghost use Rattle.std.specs.Prelude.{◌≡◌, true, false, length, is_some};
-ghost use Rattle.blocks.specs.Fields.{fields_given, named, label_of};
-ghost use Rattle.blocks.specs.Legal.{acknowledges, text_length};
-ghost use Rattle.writing.specs.Laying.{Lengths, AddressTested, PairTested, LabelTested, HeadTested, CharactersTested, TextTested, FieldsTested};
-ghost use Rattle.blocks.specs.Legal.{way};
+ghost use Rattle.std.specs.Prelude.{◌≡◌, length, IsNone};
+ghost use Rattle.blocks.specs.Fields.{fields_given, label_of, named};
+ghost use Rattle.blocks.specs.Legal.{acknowledges, text_length, way};
+ghost use Rattle.writing.specs.Laying.{Lengths, LabelTested, HeadTested, TextTested, FieldsTested};
 
-use blocks::{Block, BlockFault, MODE, STX, address_allows, is_label, text_allows};
+use blocks::{Block, BlockFault, address_fault, is_label, text_fault};
 use directions::{Direction, Identifier, Ring};
-
-// The index of the first address character that may not stand there.
-fn address_fault(address: &[u8; 7]) -> Option<usize>
-    ensures tested { AddressTested address.now result }
-    ensures long { length address.now ≡ 7 }
-{
-    let mut before = MODE;
-    for (index, character) in address.iter().enumerate() {
-        if !address_allows(index, before, *character) {
-            return Some(index);
-        }
-        before = *character;
-    }
-    None
-}
 
 // Whether the acknowledgment is none, or names an identifier of the ring.
 fn is_acknowledgment<R: Ring>(acknowledgment: Option<Identifier>) -> bool
     ensures { result ≡ acknowledges R.Ring.ring (named acknowledgment) }
 {
-    match acknowledgment {
-        None => true,
-        Some(identifier) => R::holds(identifier),
-    }
+    acknowledgment.is_none_or(|identifier| R::holds(identifier))
 }
 
-// The index of the first character that may not stand in a message's label.
-fn character_of_label_fault(label: &[u8; 2]) -> Option<usize>
-    ensures tested { PairTested label.now result }
-    ensures long { length label.now ≡ 2 }
-{
-    if !is_label(label[0]) {
-        return Some(0);
-    }
-    if !is_label(label[1]) {
-        return Some(1);
-    }
-    None
-}
-
-// The same of a block; a response's label is its own.
+// The index of the first character that may not stand in the label; a response's is its own.
 fn label_fault(block: &Block<'_>) -> Option<usize>
     ensures tested { LabelTested (fields_given block.now) result }
     ensures long { length (label_of (fields_given block.now)) ≡ 2 }
 {
     match block {
         Block::Response { .. } => None,
-        Block::Message { label, .. } => character_of_label_fault(label),
+        Block::Message { label, .. } => label.iter().position(|character| !is_label(*character)),
     }
 }
 
 // The first place of the head whose field is not as its rule asks.
 fn head_fault<D: Direction>(block: &Block<'_>) -> Option<usize>
     ensures tested { HeadTested (way D.Direction D.Other.Ring.ring) (fields_given block.now) result }
-    ensures long { is_some result ≡ false → Lengths (fields_given block.now) }
+    ensures long { IsNone result → Lengths (fields_given block.now) }
 {
     if let Some(index) = address_fault(block.address()) {
         return Some(2 + index);
@@ -83,25 +50,11 @@ fn is_text_length<D: Direction>(last: bool, count: usize) -> bool
     ensures { result ≡ text_length D.Direction.text last count }
 {
     let opening = D::opening_length();
-    opening <= count && count <= opening + D::room() && (0 < count || last)
-}
-
-// The index of the first text character that may not stand there.
-fn character_fault<D: Direction>(text: &[u8]) -> Option<usize>
-    ensures { CharactersTested (way D.Direction D.Other.Ring.ring) text.now result }
-{
-    let mut before = STX;
-    for (index, character) in text.iter().enumerate() {
-        if !text_allows::<D>(index, before, *character) {
-            return Some(index);
-        }
-        before = *character;
-    }
-    None
+    (opening..=opening + D::room()).contains(&count) && (0 < count || last)
 }
 
 // The first place of the rest that the text of a message would take and may not.
-fn text_fault<D: Direction>(block: &Block<'_>) -> Option<usize>
+fn rest_fault<D: Direction>(block: &Block<'_>) -> Option<usize>
     ensures { TextTested (way D.Direction D.Other.Ring.ring) (fields_given block.now) result }
 {
     let Block::Message { last, text, .. } = block else {
@@ -110,10 +63,7 @@ fn text_fault<D: Direction>(block: &Block<'_>) -> Option<usize>
     if !is_text_length::<D>(*last, text.len()) {
         return Some(13);
     }
-    match character_fault::<D>(text) {
-        Some(index) => Some(14 + index),
-        None => None,
-    }
+    text_fault::<D>(text).map(|index| 14 + index)
 }
 
 // Refuses bad fields at the place that they would take.
@@ -123,7 +73,7 @@ pub(crate) fn test_fields<D: Direction>(block: &Block<'_>) -> Result<(), BlockFa
     if let Some(place) = head_fault::<D>(block) {
         return Err(BlockFault::Head { place });
     }
-    if let Some(place) = text_fault::<D>(block) {
+    if let Some(place) = rest_fault::<D>(block) {
         return Err(BlockFault::Rest { place });
     }
     Ok(())

@@ -4,7 +4,7 @@ ghost use Rattle.writing.specs.Writing.{Writes};
 ghost use Rattle.blocks.specs.Legal.{way};
 
 use crate::fields::test_fields;
-use crate::laying::lay_out;
+use crate::laying::string_of;
 use blocks::{Block, BlockFault};
 use directions::Direction;
 
@@ -17,5 +17,8 @@ pub fn write<D: Direction>(block: &Block<'_>, buffer: &mut [u8]) -> Result<usize
         return Err(BlockFault::Buffer);
     }
     test_fields::<D>(block)?;
-    Ok(lay_out(buffer, block))
+    let string = string_of(block);
+    let length = string.len();
+    buffer[..length].copy_from_slice(&string);
+    Ok(length)
 }

@@ -10,4 +10,4 @@ way g = record { own = g.D.Ring.ring; other = g.D.Other.Ring.ring; text = g.D.Di
 
 pub returns : goal.returns
 returns g c =
-    sound_fields (way g) (fields_given c.args.block.now) (c.in_default.ensures.long refl) c.in_default.ensures.tested c.in_default-text_fault.ensures
+    sound_fields (way g) (fields_given c.args.block.now) (c.in_default.ensures.long refl) c.in_default.ensures.tested c.in_default-rest_fault.ensures

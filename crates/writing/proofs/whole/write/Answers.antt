@@ -1,8 +1,7 @@
-use Rattle.std.proofs.Common.{◌≡◌, ℕ, ◌+◌, ◌++◌, length, drop, ap, ◌∙◌, arith}
+use Rattle.std.proofs.Common.{◌≡◌, ℕ, ◌++◌, List, length, drop, ap, ◌∙◌}
 use Rattle.blocks.specs.Fields.{fields_given, written}
 use Rattle.blocks.specs.Legal.{Way}
 use Rattle.blocks.proofs.Shapes.{Lawful}
-use Rattle.writing.specs.Laying.{placed}
 use Rattle.writing.proofs.Written.{laid_as}
 use Rattle.writing.proofs.whole.write.Goals as goal
 use Rattle.writing.proofs.whole.write.Given as given
@@ -17,12 +16,11 @@ pub returns : goal.returns
 returns g c =
     let f = fields_given c.args.block.now in
     let s = c.in_ok-test_fields.ensures in
-    let e = laid_as (way g) (lawful g) f s in
-    let n : c.lay_out.result ≡ length (written f) = c.lay_out.ensures.long ∙ ap length e in
+    let e : c.string_of-string.result.items ≡ written f = c.string_of-string.ensures ∙ laid_as (way g) (lawful g) f s in
+    let w : c.copy_from_slice.new.self ≡ written f = c.copy_from_slice.ensures.after ∙ c.deref.ensures.0 ∙ e in
     record {
       room = c.if-buffer-lt238.false;
       sound = s;
-      long = n;
-      holds = c.lay_out.ensures.after ∙ ap (placed c.args.buffer.now 0) e ∙
-          ap (λ (k : ℕ). written f ++ drop k c.args.buffer.now) (let z : 0 + length (written f) ≡ c.lay_out.result = omega (arith, n) in z);
+      long = c.len-length.ensures.value ∙ ap length e;
+      holds = ap (λ (xs : List ℕ). xs ++ drop c.len-length.result c.args.buffer.now) w;
     }
