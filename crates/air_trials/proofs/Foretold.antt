@@ -1,5 +1,5 @@
 -- What comes out of a fade box over a frame line, from what each says of itself. Assumes nothing.
-use Rattle.std.proofs.Common.{◌≡◌, ℕ, ◌+◌, ◌<◌, ◌≤◌, Bool, true, cond, leb, List, [], ◌∷◌, ◌++◌, length, take, drop, Ok, Err, Result, sym, refl, ap, ◌∙◌, subst, arith}
+use Rattle.std.proofs.Common.{◌≡◌, ℕ, ◌+◌, ◌≤◌, Bool, true, cond, leb, List, [], ◌∷◌, ◌++◌, length, take, drop, Ok, Err, Result, sym, refl, ap, ◌∙◌, subst, arith}
 use Rattle.std.proofs.lemmas.List.{length-take, take-append-drop}
 use Rattle.std.proofs.lemmas.Bool.{le-leb}
 use Rattle.paths.specs.declared.fault.PathFault.{PathFault}
@@ -9,7 +9,7 @@ use Rattle.paths.specs.Fates.{next}
 use Rattle.paths.specs.Fading.{FadeSight, FadePuts, FadeTakes, Faded, spoiled}
 use Rattle.paths.specs.Meaning.{Takes}
 use Rattle.lines.specs.Layouts.{framed}
-use Rattle.lines.specs.Line.{LineSight, LinePuts, LineTakes, keeps}
+use Rattle.lines.specs.Line.{LineSight, LinePuts, LineTakes}
 
 long : (s : List ℕ) → length (spoiled s) ≡ length s
 long [] = refl

@@ -2,27 +2,13 @@
 mod fading;
 mod filling;
 
-use lines::{CharacterLine, FrameLine, Memory};
 use paths::{AirPath, PathFault};
-use std::alloc::Global;
 use std::process::Abort;
 use std::test::Fail;
 
-fn frame_line(heap: Global, octets: usize) -> Result<FrameLine, Fail> {
-    let memory = Memory::reserve(heap, octets)?;
-    Ok(FrameLine::new(memory))
-}
-
-fn character_line(heap: Global, octets: usize) -> Result<CharacterLine, Fail> {
-    let memory = Memory::reserve(heap, octets)?;
-    Ok(CharacterLine::new(memory))
-}
-
 // Each octet of a buffer is still EE hex.
 fn untouched(rt: &impl Abort, part: &[u8]) {
-    for x in part {
-        assert!(rt; *x == 0xEE);
-    }
+    assert!(rt; part.iter().all(|x| *x == 0xEE));
 }
 
 // The next string is this one, and the buffer behind it is untouched.

@@ -1,9 +1,8 @@
 -- Both layouts find the first string of a run again. Assumes nothing.
-use Rattle.std.specs.Prelude.{◌≡◌, ℕ, suc, ◌+◌, ◌<◌, Bool, true, false, cond, ◌&&◌, List, [], ◌∷◌, ◌++◌, length, drop, ◌==◌, nat_le, slice_index, refl}
+use Rattle.std.specs.Prelude.{◌≡◌, ℕ, suc, ◌+◌, ◌<◌, Bool, true, false, cond, not, ◌&&◌, List, [], ◌∷◌, ◌++◌, length, ◌==◌, nat_le, refl}
 use Rattle.std.proofs.Common.{ap, ◌∙◌, arith}
 use Rattle.std.proofs.Math.Nat.{div-add-mod}
-use Rattle.std.proofs.lemmas.Bool.{and_parts, eqb-true, cond-true, cond-false}
-use Rattle.std.proofs.lemmas.List.{at_drop_more, at_drop_all}
+use Rattle.std.proofs.lemmas.Bool.{and_parts, eqb-true}
 use Rattle.lines.specs.Layout.{Lawful, holds}
 use Rattle.lines.specs.Layouts.{framed, spelled, suffix_at, is_suffix}
 
@@ -15,9 +14,9 @@ suffix_stays : (s rest : List ℕ) → suffix_at s < length s → suffix_at (s +
 suffix_stays [] rest h = absurd (omega arith)
 suffix_stays (x ∷ s) rest h = go (is_suffix x) h (suffix_stays s rest)
   where
-    go : (t : Bool) → cond t 0 (suc (suffix_at s)) < suc (length s) → (suffix_at s < length s → suffix_at (s ++ rest) ≡ suffix_at s) → cond t 0 (suc (suffix_at (s ++ rest))) ≡ cond t 0 (suc (suffix_at s))
+    go : (t : Bool) → cond (not t) (1 + suffix_at s) 0 < suc (length s) → (suffix_at s < length s → suffix_at (s ++ rest) ≡ suffix_at s) → cond (not t) (1 + suffix_at (s ++ rest)) 0 ≡ cond (not t) (1 + suffix_at s) 0
     go true h e = refl
-    go false h e = ap suc (e (omega arith))
+    go false h e = ap (λ (n : ℕ). 1 + n) (e (omega arith))
 
 spelled_found : (s rest : List ℕ) → holds spelled s ≡ true → suffix_at (s ++ rest) + 4 ≡ length s
 spelled_found s rest h =
@@ -27,17 +26,3 @@ spelled_found s rest h =
 
 pub spelled_lawful : Lawful spelled
 spelled_lawful = record { head_long = λ s. refl; found = spelled_found }
-
--- The search for a suffix, one octet on, at one, and at the end.
-pub suffix_next : (s : List ℕ) (i : ℕ) → i < length s → is_suffix (slice_index s i) ≡ false → suffix_at s ≡ i + suffix_at (drop i s) → suffix_at s ≡ (i + 1) + suffix_at (drop (i + 1) s)
-suffix_next s i h x e =
-    let step = at_drop_more suffix_at s i 0 h ∙ cond-false (is_suffix (slice_index s i)) 0 (suc (suffix_at (drop (i + 1) s))) x in
-    omega (arith, e, step)
-
-pub suffix_here : (s : List ℕ) (i : ℕ) → i < length s → is_suffix (slice_index s i) ≡ true → suffix_at s ≡ i + suffix_at (drop i s) → i ≡ suffix_at s
-suffix_here s i h x e =
-    let step = at_drop_more suffix_at s i 0 h ∙ cond-true (is_suffix (slice_index s i)) 0 (suc (suffix_at (drop (i + 1) s))) x in
-    omega (arith, e, step)
-
-pub suffix_none : (s : List ℕ) (i : ℕ) → i ≡ length s → suffix_at s ≡ i + suffix_at (drop i s) → length s ≡ suffix_at s
-suffix_none s i q e = omega (arith, e, q, at_drop_all suffix_at s i (omega arith))

@@ -1,5 +1,6 @@
 -- The layouts of the two lines. Assumes nothing.
-use Rattle.std.specs.Prelude.{ℕ, suc, ◌+◌, ◌*◌, ◌/◌, ◌%◌, Bool, true, cond, ◌||◌, List, [], ◌∷◌, length, drop, ◌==◌, slice_index}
+use Rattle.std.specs.Prelude.{ℕ, ◌+◌, ◌*◌, ◌/◌, ◌%◌, Bool, true, ◌||◌, List, [], ◌∷◌, length, drop, ◌==◌, slice_index}
+use Rattle.std.specs.List.{position_or_len}
 use Rattle.lines.specs.Layout.{Layout}
 
 -- The frame line: each string behind its length in two octets, the high one first.
@@ -17,8 +18,7 @@ is_suffix x = x == 0x83 || x == 0x97
 
 -- The place of the first 83 or 97 hex; the length, if there is none.
 abbrev pub suffix_at : List ℕ → ℕ
-suffix_at [] = 0
-suffix_at (x ∷ s) = cond (is_suffix x) 0 (suc (suffix_at s))
+suffix_at s = position_or_len is_suffix s
 
 -- The character line: each string behind AB 2A 16 16 hex; it ends three octets after its first 83 or 97 hex.
 abbrev pub spelled : Layout

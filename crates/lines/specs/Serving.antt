@@ -1,13 +1,13 @@
 -- What a line's calls do, for any lawful layout, from what they do to its store. Assumes nothing.
-use Rattle.std.specs.Prelude.{◌≡◌, ℕ, ◌+◌, ◌-◌, ◌<◌, ◌≤◌, Bool, true, false, cond, ◌&&◌, leb, List, [], ◌∷◌, ◌++◌, length, take, drop, nat_le, refl}
+use Rattle.std.specs.Prelude.{◌≡◌, ℕ, ◌+◌, ◌<◌, ◌≤◌, Bool, true, false, cond, ◌&&◌, leb, List, [], ◌∷◌, ◌++◌, length, take, drop, nat_le, refl}
 use Rattle.std.proofs.Common.{sym, ap, ◌∙◌, inl, arith, length-append}
-use Rattle.std.proofs.lemmas.List.{take_at, drop_at, take_rest, length-drop, length-take-le, append-nil}
+use Rattle.std.proofs.lemmas.List.{take_at, drop_at, length-drop, append-nil}
 use Rattle.std.proofs.lemmas.Bool.{and_parts, leb-true, cond-true, cond-false}
 use Rattle.paths.specs.Meaning.{Sized, Each, Added, Left, Handed}
 use Rattle.lines.specs.declared.store.Store.{Store}
 use Rattle.lines.specs.Layout.{Layout, Lawful, holds, holds_all, packed, strings_of, occupied}
 use Rattle.lines.specs.Line.{LinePuts, LineTakes, keeps}
-use Rattle.lines.specs.Stored.{memory_of, seen_in, KeptIn, fit, laid_at, Offered, CutOff}
+use Rattle.lines.specs.Stored.{memory_of, oldest_in, seen_in, KeptIn, fit, laid_at, Offered, CutOff}
 use Rattle.lines.specs.Laying.{laid_long, moved_long}
 use Rattle.lines.specs.Holding.{Holds, Oldest, holding, keeping, strings_are, few_held, one_added, none_added, one_removed, oldest, oldest_of, first_is}
 
@@ -20,6 +20,10 @@ sized_one l s h =
 pub each_sized : (l : Layout) (ss : List (List ℕ)) → holds_all l ss ≡ true → Each Sized ss
 each_sized l [] h = tt
 each_sized l (s ∷ ss) h = let e = and_parts (holds l s) (holds_all l ss) h in (sized_one l s e.0, each_sized l ss e.1)
+
+-- The strings that wait in a store of a line have 1 to 256 octets.
+pub waiting_sized : (l : Layout) (a : Store) → KeptIn l a → Each Sized (seen_in l a).waiting
+waiting_sized l a kept = each_sized l (strings_of l a.count (memory_of a)) kept.held
 
 one_or_none : (t : Bool) (before : List (List ℕ)) (s : List ℕ) (after : List (List ℕ)) → after ≡ cond t (before ++ s ∷ []) before → Added before s after
 one_or_none true before s after e = record { copies = s ∷ []; joined = e; each = (inl refl, tt) }
@@ -87,45 +91,38 @@ module _ (l : Layout) (L : Lawful l) (a : Store) (kept : KeptIn l a) where
           meaning = one_or_none t (waiting_in l a) s (waiting_in l b) joins;
         }
 
-  -- The oldest string, its length and its octets with their head.
+  -- The oldest string, and what holds of it.
   module _ (some : 1 ≤ a.count) where
     old : Oldest l L (memory_of a) a.used a.count
     old = oldest_of l L (memory_of a) a.used a.count within kept some
 
-    pub first_long : l.first (memory_of a) ≡ length (take (l.first (memory_of a)) (drop l.size (memory_of a)))
-    first_long = first_is l L (memory_of a) a.used a.count (take (l.first (memory_of a)) (drop l.size (memory_of a))) old.others old.all
+    pub first_long : l.first (memory_of a) ≡ length (oldest_in l a)
+    first_long = first_is l L (memory_of a) a.used a.count (oldest_in l a) old.others old.all
 
-    small : l.first (memory_of a) ≤ 256
-    small = omega (arith, first_long, (each_sized l (take (l.first (memory_of a)) (drop l.size (memory_of a)) ∷ old.others) old.all.held).0.most)
+    pub oldest_sized : Sized (oldest_in l a)
+    oldest_sized = (each_sized l (oldest_in l a ∷ old.others) old.all.held).0
 
-    -- The oldest string lies within the octets in use; `run` is the memory as it was read.
-    pub first_fits : (run : List ℕ) → run ≡ memory_of a → (l.size + l.first run ≤ length run) × (l.first run ≤ 256) × (l.size + l.first run ≤ a.used)
-    first_fits run e =
-        let q = ap l.first e in
-        let used : l.size + l.first run ≤ a.used = omega (arith, q, first_long, old.all.uses) in
-        (omega (arith, used, within, ap length e), omega (arith, q, small), used)
+    -- It lies within the octets in use.
+    pub oldest_fits : l.size + length (oldest_in l a) ≤ a.used
+    oldest_fits = omega (arith, old.all.uses)
 
-    pub first_opens : (run : List ℕ) → run ≡ memory_of a → take l.size run ≡ l.head (take (l.first run) (drop l.size run))
-    first_opens run e =
-        let s = take (l.first (memory_of a)) (drop l.size (memory_of a)) in
-        let opens = ap (take l.size) (oldest l L (memory_of a) a.used a.count s old.others old.all) ∙ take_at (l.head s) (s ++ (packed l old.others ++ old.all.behind)) l.size (L.head_long s) in
-        ap (take l.size) e ∙ opens ∙ ap (λ (m : List ℕ). l.head (take (l.first m) (drop l.size m))) (sym e)
+    pub oldest_opens : take l.size (memory_of a) ≡ l.head (oldest_in l a)
+    oldest_opens =
+        let s = oldest_in l a in
+        ap (take l.size) (oldest l L (memory_of a) a.used a.count s old.others old.all) ∙ take_at (l.head s) (s ++ (packed l old.others ++ old.all.behind)) l.size (L.head_long s)
 
-    pub take_served : (b : Store) (n : ℕ) (run buffer buffer' : List ℕ) → run ≡ memory_of a → CutOff (l.size + n) a b → 256 ≤ length buffer → n ≡ l.first run → buffer' ≡ take (l.first run) (drop l.size run) ++ drop (l.first run) buffer → TakeServed l a buffer b buffer' n
-    take_served b n run buffer buffer' r cut room e f =
-        let s = take (l.first (memory_of a)) (drop l.size (memory_of a)) in
-        let first : n ≡ l.first (memory_of a) = e ∙ ap l.first r in
-        let long : n ≡ length s = first ∙ first_long in
-        let octets : l.size + n ≡ l.size + length s = ap (λ (k : ℕ). l.size + k) long in
-        let after = one_removed l L (memory_of a) a.used a.count (l.size + n) s old.others (take (l.size + n) (take a.used (memory_of a)) ++ drop a.used (memory_of a)) (memory_of b) b.used b.count old.all octets cut.octets cut.used cut.count in
+    pub take_served : (b : Store) (s buffer : List ℕ) → s ≡ oldest_in l a → CutOff (l.size + length s) a b → 256 ≤ length buffer → TakeServed l a buffer b (s ++ drop (length s) buffer) (length s)
+    take_served b s buffer e cut room =
+        let n = length s in
+        let octets : l.size + n ≡ l.size + length (oldest_in l a) = ap (λ (x : List ℕ). l.size + length x) e in
+        let after = one_removed l L (memory_of a) a.used a.count (l.size + n) (oldest_in l a) old.others (take (l.size + n) (take a.used (memory_of a)) ++ drop a.used (memory_of a)) (memory_of b) b.used b.count old.all octets cut.octets cut.used cut.count in
         let left = strings_are l L (memory_of b) b.used b.count old.others after in
-        let was = strings_are l L (memory_of a) a.used a.count (s ∷ old.others) old.all in
-        let filled : buffer' ≡ s ++ drop n buffer = f ∙ ap (λ (m : List ℕ). take (l.first m) (drop l.size m) ++ drop (l.first m) buffer) r ∙ ap (λ (k : ℕ). s ++ drop k buffer) (sym first) in
-        let front : take n buffer' ≡ s = ap (take n) filled ∙ take_at s (drop n buffer) n (sym long) in
-        let waits : waiting_in l a ≡ take n buffer' ∷ waiting_in l b = was ∙ ap (λ (x : List (List ℕ)). s ∷ x) (sym left) ∙ ap (λ (x : List ℕ). x ∷ waiting_in l b) (sym front) in
-        let behind : drop n buffer' ≡ drop n buffer = ap (drop n) filled ∙ drop_at s (drop n buffer) n (sym long) in
-        let count : n ≤ 256 = omega (arith, small) in
-        let size : length buffer' ≡ length buffer = omega (arith, ap length filled, length-append s (drop n buffer), length-drop n buffer) in
+        let was = strings_are l L (memory_of a) a.used a.count (oldest_in l a ∷ old.others) old.all in
+        let front : take n (s ++ drop n buffer) ≡ s = take_at s (drop n buffer) n refl in
+        let waits : waiting_in l a ≡ take n (s ++ drop n buffer) ∷ waiting_in l b = was ∙ ap (λ (x : List (List ℕ)). oldest_in l a ∷ x) (sym left) ∙ ap (λ (x : List ℕ). x ∷ waiting_in l b) (sym (front ∙ e)) in
+        let behind : drop n (s ++ drop n buffer) ≡ drop n buffer = drop_at s (drop n buffer) n refl in
+        let count : n ≤ 256 = omega (arith, ap length e, oldest_sized.most) in
+        let size : length (s ++ drop n buffer) ≡ length buffer = omega (arith, length-append s (drop n buffer), length-drop n buffer) in
         record {
           kept = keeping l L (memory_of b) b.used b.count old.others after;
           exact = record {
@@ -137,11 +134,3 @@ module _ (l : Layout) (L : Lawful l) (a : Store) (kept : KeptIn l a) where
           };
           meaning = record { room = room; count = count; taken = record { dropped = []; next = waits }; behind = behind; size = size };
         }
-
--- A string read behind its head, as it was copied to a buffer.
-pub read_behind : (k n : ℕ) (run buffer buffer' : List ℕ) → k + n ≤ length run → buffer' ≡ take (n - 0) (take (length run - k) (drop k run)) ++ drop (length (take (n - 0) (take (length run - k) (drop k run)))) buffer → buffer' ≡ take n (drop k run) ++ drop n buffer
-read_behind k n run buffer buffer' h e =
-    let z : n - 0 ≡ n = omega arith in
-    let part : take (n - 0) (take (length run - k) (drop k run)) ≡ take n (drop k run) = ap (λ (j : ℕ). take j (take (length run - k) (drop k run))) z ∙ ap (take n) (take_rest run k) in
-    let long : length (take n (drop k run)) ≡ n = length-take-le n (drop k run) (omega (arith, length-drop k run)) in
-    e ∙ ap (λ (x : List ℕ). x ++ drop (length x) buffer) part ∙ ap (λ (j : ℕ). take n (drop k run) ++ drop j buffer) long

@@ -8,6 +8,10 @@ use Rattle.lines.specs.Line.{LineSight, line_of}
 abbrev pub memory_of : Store → List ℕ
 memory_of a = vec_items a.octets
 
+-- The first string of a store, behind its head.
+abbrev pub oldest_in : Layout → Store → List ℕ
+oldest_in l a = take (l.first (memory_of a)) (drop l.size (memory_of a))
+
 -- What a line of a layout sees in its store.
 abbrev pub seen_in : Layout → Store → LineSight
 seen_in l a = line_of l (memory_of a) a.count

@@ -3,6 +3,7 @@
 
 mod character;
 mod frame;
+mod line;
 mod memory;
 mod outcome;
 mod shape;

@@ -1,4 +1,2 @@
-mod Coming
-mod Adding
 pub mod Outcomes
 pub mod Using

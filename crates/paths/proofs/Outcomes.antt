@@ -1,5 +1,5 @@
 -- When the relations of a path determine its calls, and that a fade box keeps it so. Assumes nothing.
-use Rattle.std.proofs.Common.{◌≡◌, ℕ, ◌<◌, List, ◌++◌, length, take, drop, Ok, Err, Option, Result, sym, refl, ap, ◌∙◌, subst, arith}
+use Rattle.std.proofs.Common.{◌≡◌, ℕ, ◌<◌, List, [], ◌∷◌, ◌++◌, length, take, drop, Ok, Err, Option, Result, sym, refl, ap, ◌∙◌, subst, arith}
 use native.Mathlib.Decide.{dec_le}
 use Rattle.std.proofs.lemmas.List.{length-take, take-append-drop}
 use Rattle.paths.specs.declared.fault.PathFault.{PathFault}
@@ -11,7 +11,6 @@ use Rattle.paths.specs.Fates.{next}
 use Rattle.paths.specs.Meaning.{Sized, Puts, Takes, Handed, TakeRefused}
 use Rattle.paths.specs.Outcome.{Determined}
 use Rattle.paths.specs.Fading.{FadeSight, FadePuts, FadeTakes, Faded, spoiled}
-use Rattle.paths.proofs.Adding.{spoiled_sized}
 
 -- One number, one fault.
 same_fault : (f g : PathFault) → number f ≡ number g → f ≡ g
@@ -68,6 +67,11 @@ sight f v = record { fates = f; below = v }
 
 same_sight : {V : Type 0} (w x : FadeSight V) → w.fates ≡ x.fates → w.below ≡ x.below → w ≡ x
 same_sight {V} w x p q = ap (λ (f : List Fate). sight f w.below) p ∙ ap (λ (v : V). sight x.fates v) q
+
+-- A spoiled string keeps its length.
+spoiled_sized : (s : List ℕ) → Sized s → Sized (spoiled s)
+spoiled_sized [] z = z
+spoiled_sized (x ∷ s) z = record { some = z.some; most = z.most }
 
 -- A fade box over a path whose outcomes are determined.
 module _ {V : Type 0} {puts : V → List ℕ → V → Type 0} {takes : V → Option (List ℕ) → V → Type 0} (D : Determined puts takes) where

@@ -10,5 +10,5 @@ pub fn drain<P: AirPath>(path: &mut P)
     ensures exact { Drained P.AirPath.takes (P.AirPath.sees path.old) (P.AirPath.sees path.new) }
 {
     let mut buffer = [0u8; 256];
-    while let Ok(_) = path.take(&mut buffer) {}
+    while path.take(&mut buffer).is_ok() {}
 }

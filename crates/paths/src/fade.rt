@@ -1,16 +1,15 @@
 // The fade box: a path that loses, doubles and spoils strings on their way to the path below.
 ghost use Rattle.std.specs.Prelude.{◌≡◌, ℕ, ◌≤◌, List, ◌++◌, map, length, take, drop};
 ghost use Rattle.paths.specs.Meaning.{Sized, Added, Puts};
-ghost use Rattle.paths.specs.Fates.{fate_of};
-ghost use Rattle.paths.specs.Held.{coming};
+ghost use Rattle.paths.specs.Fates.{fate_of, coming};
 ghost use Rattle.paths.specs.Fading.{FadeSight, FadePuts, FadeTakes, Faded, spoiled};
 ghost use Rattle.std.proofs.Common.{rules};
 
-use crate::fates::Fate;
+use crate::fates::{Fate, Fates};
 use crate::fault::PathFault;
-use crate::held::Fates;
 use crate::path::AirPath;
 use crate::string::carries;
+use arrayvec::ArrayVec;
 
 #[derive(Drop)]
 pub struct FadeBox<P> {
@@ -74,26 +73,10 @@ fn fade<P: AirPath>(below: &mut P, fate: Fate, s: &[u8]) -> Result<(), PathFault
             below.put(s)?;
             below.put(s)
         }
-        Fate::Spoiled => put_spoiled(below, s),
+        Fate::Spoiled => {
+            let mut copy = ArrayVec::<u8, 256>::try_from(s).unwrap();
+            copy[0] = 0;
+            below.put(&copy)
+        }
     }
-}
-
-// Puts a string below with its first octet made 0.
-fn put_spoiled<P: AirPath>(below: &mut P, s: &[u8]) -> Result<(), PathFault>
-    requires { Sized s.now }
-    ensures meaning { Puts Added (P.AirPath.strings (P.AirPath.sees below.old)) (spoiled s.now) (P.AirPath.strings (P.AirPath.sees below.new)) result }
-    ensures exact { Puts P.AirPath.puts (P.AirPath.sees below.old) (spoiled s.now) (P.AirPath.sees below.new) result }
-{
-    let mut copy = [0u8; 256];
-    spoil(s, &mut copy);
-    below.put(&copy[0..s.len()])
-}
-
-// Copies a string to the start of a buffer, and makes its first octet 0.
-fn spoil(s: &[u8], copy: &mut [u8])
-    requires { (1 ≤ length s.now) × (length s.now ≤ length copy.old) }
-    ensures { copy.new ≡ spoiled s.now ++ drop (length s.now) copy.old }
-{
-    copy[0..s.len()].copy_from_slice(s);
-    copy[0] = 0;
 }

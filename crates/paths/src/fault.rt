@@ -1,8 +1,10 @@
 // What a path refuses.
-#[derive(Clone, Copy, PartialEq, Eq, Debug)]
+use thiserror::Error;
+
+#[derive(Clone, Copy, PartialEq, Eq, Debug, Error)]
 pub enum PathFault {
-    // A string is not 1 to 256 octets, or a buffer is under 256.
+    #[error("a string is not 1 to 256 octets, or a buffer is under 256")]
     BadLength,
-    // Nothing waits.
+    #[error("nothing waits")]
     NothingWaits,
 }

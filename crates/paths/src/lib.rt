@@ -5,7 +5,6 @@ mod emptying;
 mod fade;
 mod fates;
 mod fault;
-mod held;
 mod outcome;
 mod path;
 mod silent;

@@ -5,5 +5,5 @@ ghost use Rattle.std.specs.Prelude.{◌≡◌, ◌&&◌, length, nat_le};
 pub fn carries(s: &[u8]) -> bool
     ensures { result ≡ (nat_le 1 (length s.now) && nat_le (length s.now) 256) }
 {
-    1 <= s.len() && s.len() <= 256
+    (1..=256).contains(&s.len())
 }

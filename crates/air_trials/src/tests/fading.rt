@@ -1,5 +1,6 @@
 // Fade boxes, and a path that loses all.
-use super::{character_line, frame_line, passes, refuses_lengths};
+use super::{passes, refuses_lengths};
+use lines::{CharacterLine, FrameLine, Memory};
 use paths::{AirPath, FadeBox, Silent};
 use std::process::Abort;
 use std::test::Fail;
@@ -18,14 +19,17 @@ const STRINGS: &[&[u8]] = &[
     b"1\x83xyz",
 ];
 
+// The strings, under those fates, over a line.
+fn mixed_fates<P: AirPath + Drop>(rt: &impl Abort, line: P, waiting: &[&[u8]]) -> Result<(), Fail> {
+    passes(rt, &mut FadeBox::new(line, FATES), STRINGS, waiting)
+}
+
 // There is no room for the second copy of the seventh string, and the last one fits exactly.
 #[test]
 fn mixed_fates_over_a_frame_line(rt: HostRuntime) -> Result<(), Fail> {
-    let mut path = FadeBox::new(frame_line(rt.alloc(), 61)?, FATES);
-    passes(
+    mixed_fates(
         &rt,
-        &mut path,
-        STRINGS,
+        FrameLine::new(Memory::reserve(rt.alloc(), 61)?),
         &[
             b"1a\x83xyz",
             b"1c\x83xyz",
@@ -42,11 +46,9 @@ fn mixed_fates_over_a_frame_line(rt: HostRuntime) -> Result<(), Fail> {
 // The same, but for the sixth string, which loses its 83 hex as it is spoiled.
 #[test]
 fn mixed_fates_over_a_character_line(rt: HostRuntime) -> Result<(), Fail> {
-    let mut path = FadeBox::new(character_line(rt.alloc(), 69)?, FATES);
-    passes(
+    mixed_fates(
         &rt,
-        &mut path,
-        STRINGS,
+        CharacterLine::new(Memory::reserve(rt.alloc(), 69)?),
         &[
             b"1a\x83xyz",
             b"1c\x83xyz",
@@ -59,34 +61,30 @@ fn mixed_fates_over_a_character_line(rt: HostRuntime) -> Result<(), Fail> {
     )
 }
 
-// Sixty-four fates are held, and a refused put spends none.
-fn loses_sixty_four<P: AirPath>(rt: &impl Abort, path: &mut P) -> Result<(), Fail> {
+// Of these fates, each for loss, sixty-four are held, and a refused put spends none.
+fn loses_sixty_four(rt: &impl Abort, memory: Memory, fates: &[u8]) -> Result<(), Fail> {
+    let mut path = FadeBox::new(FrameLine::new(memory), fates);
     for _ in 0..64 {
-        refuses_lengths(rt, path);
+        refuses_lengths(rt, &mut path);
         path.put(b"lost")?;
     }
-    passes(rt, path, &[b"kept"], &[b"kept"])
+    passes(rt, &mut path, &[b"kept"], &[b"kept"])
 }
 
 #[test]
 fn sixty_four_fates_are_held(rt: HostRuntime) -> Result<(), Fail> {
-    loses_sixty_four(
-        &rt,
-        &mut FadeBox::new(frame_line(rt.alloc(), 64)?, &[0; 64]),
-    )
+    loses_sixty_four(&rt, Memory::reserve(rt.alloc(), 64)?, &[0; 64])
 }
 
 #[test]
 fn a_sixty_fifth_fate_goes_unread(rt: HostRuntime) -> Result<(), Fail> {
-    loses_sixty_four(
-        &rt,
-        &mut FadeBox::new(frame_line(rt.alloc(), 64)?, &[0; 65]),
-    )
+    loses_sixty_four(&rt, Memory::reserve(rt.alloc(), 64)?, &[0; 65])
 }
 
 #[test]
 fn a_fade_box_stands_on_a_fade_box(rt: HostRuntime) -> Result<(), Fail> {
-    let below = FadeBox::new(frame_line(rt.alloc(), 64)?, &[3, 0, 2]);
+    let line = FrameLine::new(Memory::reserve(rt.alloc(), 64)?);
+    let below = FadeBox::new(line, &[3, 0, 2]);
     let mut path = FadeBox::new(below, &[2, 0, 3]);
     passes(
         &rt,
