@@ -3,6 +3,7 @@
 use Rattle.std.specs.Prelude.{ℕ, Some, None, Option}
 use Rattle.paths.specs.Faults as air
 use Rattle.blocks.specs.Faults as block
+use Rattle.calls.specs.Setting.{setting_number}
 use Rattle.calls.specs.declared.fault.LinkFault.{LinkFault}
 use Rattle.calls.specs.declared.fault.LinkFault.TheVariants.{Air, Block, Buffer, Nothing, Address, Stray, Seventeenth, Crowded, Setting, Time, Text, Full, Unknown, Spent}
 
@@ -16,7 +17,7 @@ number_of Address = 9
 number_of Stray = 10
 number_of Seventeenth = 11
 number_of Crowded = 12
-number_of (Setting n) = 13
+number_of (Setting k) = 13
 number_of Time = 14
 number_of (Text p) = 15
 number_of Full = 16
@@ -33,7 +34,7 @@ place_of Address = None
 place_of Stray = None
 place_of Seventeenth = None
 place_of Crowded = None
-place_of (Setting n) = Some n
+place_of (Setting k) = Some (setting_number k)
 place_of Time = None
 place_of (Text p) = Some p
 place_of Full = None

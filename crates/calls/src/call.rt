@@ -10,7 +10,7 @@ pub enum Side {
 }
 
 // A call at an end.
-#[derive(Clone, Copy)]
+#[derive(Clone, Copy, PartialEq, Eq, Debug)]
 pub enum Call<'a> {
     // take a message to be sent
     Submit { label: Label, text: &'a [u8] },
@@ -27,7 +27,7 @@ pub enum Call<'a> {
 }
 
 // What a call answers, each in its own way.
-#[derive(Clone, Copy)]
+#[derive(Clone, Copy, PartialEq, Eq, Debug)]
 pub enum Answer {
     // the message's number
     Submit(Result<u64, LinkFault>),

@@ -2,38 +2,43 @@
 ghost use Rattle.std.specs.Prelude.{◌≡◌};
 ghost use Rattle.calls.specs.declared.fault.LinkFault.TheVariants.{Block, Air};
 
+use crate::types::Setting;
 use blocks::BlockFault;
 use paths::PathFault;
+use thiserror::Error;
 
-#[derive(Clone, Copy)]
+#[derive(Clone, Copy, PartialEq, Eq, Debug, Error)]
 pub enum LinkFault {
     // what the path below refuses
+    #[error("the path refuses: {0:?}")]
     Air(PathFault),
     // the string heard is no block, or the fields of the block to be sent are not sound
+    #[error("no block: {0:?}")]
     Block(BlockFault),
-    // a buffer too short for a collected message
+    #[error("the buffer is too short for a collected message")]
     Buffer,
-    // no message waits, or the oldest outgoing one is absent or unsettled
+    #[error("no message waits, or the oldest outgoing one is absent or unsettled")]
     Nothing,
-    // the address is another's
+    #[error("the address is another's")]
     Address,
-    // a block that neither opens nor continues a message
+    #[error("the block neither opens nor continues a message")]
     Stray,
-    // a seventeenth block would join a message
+    #[error("a seventeenth block would join the message")]
     Seventeenth,
-    // a message would complete while four inbound cells are taken
+    #[error("a message would complete while four inbound cells are taken")]
     Crowded,
-    // a setting is outside its limits; its number
-    Setting { number: u8 },
-    // the time is earlier than the last one taken, or too late
+    #[error("the setting {0:?} is outside its limits")]
+    Setting(Setting),
+    #[error("the time is earlier than the last one taken, or too late")]
     Time,
-    // label or text is not legal; the place counts label and text as one string
+    // the place counts label and text as one string
+    #[error("label or text is not legal at place {place}")]
     Text { place: usize },
-    // four outgoing cells are taken, or all numbers are given out
+    #[error("four outgoing cells are taken, or all numbers are given out")]
     Full,
-    // no unsettled outgoing message has that number
+    #[error("no unsettled outgoing message has that number")]
     Unknown,
-    // the message has begun and too many identifiers are spent
+    #[error("the message has begun and too many identifiers are spent")]
     Spent,
 }
 
@@ -50,5 +55,42 @@ impl From<PathFault> for LinkFault {
 
     fn from(fault: PathFault) -> LinkFault {
         LinkFault::Air(fault)
+    }
+}
+
+impl LinkFault {
+    ghost use Rattle.calls.specs.Faults.{number_of, place_of};
+
+    // The refusal's number; a block's or a path's keeps its own.
+    pub fn number(&self) -> u8
+        ensures { result ≡ number_of self.now }
+    {
+        match self {
+            LinkFault::Block(fault) => fault.number(),
+            LinkFault::Air(PathFault::BadLength) | LinkFault::Buffer => 1,
+            LinkFault::Air(PathFault::NothingWaits) | LinkFault::Nothing => 2,
+            LinkFault::Address => 9,
+            LinkFault::Stray => 10,
+            LinkFault::Seventeenth => 11,
+            LinkFault::Crowded => 12,
+            LinkFault::Setting(_) => 13,
+            LinkFault::Time => 14,
+            LinkFault::Text { .. } => 15,
+            LinkFault::Full => 16,
+            LinkFault::Unknown => 17,
+            LinkFault::Spent => 18,
+        }
+    }
+
+    // Its place: of a block's refusal in the string, of a setting its number, of label and text in the two as one string.
+    pub fn place(&self) -> Option<usize>
+        ensures { result ≡ place_of self.now }
+    {
+        match self {
+            LinkFault::Block(fault) => fault.place(),
+            LinkFault::Setting(setting) => Some(usize::from(setting.number())),
+            LinkFault::Text { place } => Some(*place),
+            _ => None,
+        }
     }
 }

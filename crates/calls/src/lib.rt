@@ -3,10 +3,9 @@
 
 mod call;
 mod fault;
-mod numbers;
 mod settings;
 mod types;
 
 pub use call::{Answer, Call, Side};
 pub use fault::LinkFault;
-pub use types::{Heard, Label, Outcome, Settings, Ticked};
+pub use types::{Heard, Label, Outcome, Setting, Settings, Ticked};

@@ -1,76 +1,85 @@
 // Which settings are within their limits.
-ghost use Rattle.std.specs.Prelude.{◌≡◌, ◌&&◌, MatchOption, nat_le};
-ghost use Rattle.calls.specs.Setting.{address_good, flight_good, setting_good, Good, FirstBad};
+ghost use Rattle.std.specs.Prelude.{◌≡◌, MatchOption, find, not};
+ghost use Rattle.calls.specs.Setting.{follow_on, address_good, flight_good, setting_number, setting_good, Good, FirstBad};
 
-use crate::types::Settings;
+use crate::types::{Setting, Settings};
 use blocks::address_allows;
 use directions::{is_letter, is_letter_or_digit};
+
+// The settings in the order of their numbers.
+const SETTINGS: [Setting; 6] = [
+    Setting::Registration,
+    Setting::Originator,
+    Setting::Flight,
+    Setting::Waits,
+    Setting::Limit,
+    Setting::Contact,
+];
+
+// Whether each character but the first may stand at its index of an address after the one before it.
+fn follow_on(characters: &[u8; 7]) -> bool
+    ensures { result ≡ follow_on characters.now }
+{
+    let places = characters.iter().enumerate().skip(1);
+    places
+        .zip(characters)
+        .all(|((place, &c), &before)| address_allows(place, before, c))
+}
 
 // Whether seven characters make an address.
 fn is_address(characters: &[u8; 7]) -> bool
     ensures { result ≡ address_good characters.now }
 {
-    let [a, b, c, d, e, f, g] = *characters;
-    address_allows(0, b'2', a)
-        && address_allows(1, a, b)
-        && address_allows(2, b, c)
-        && address_allows(3, c, d)
-        && address_allows(4, d, e)
-        && address_allows(5, e, f)
-        && address_allows(6, f, g)
+    address_allows(0, b'2', characters[0]) && follow_on(characters)
 }
 
 // Whether six characters are letters or digits.
 fn is_flight(characters: &[u8; 6]) -> bool
     ensures { result ≡ flight_good characters.now }
 {
-    let [a, b, c, d, e, f] = *characters;
-    is_letter_or_digit(a)
-        && is_letter_or_digit(b)
-        && is_letter_or_digit(c)
-        && is_letter_or_digit(d)
-        && is_letter_or_digit(e)
-        && is_letter_or_digit(f)
+    characters
+        .iter()
+        .all(|&character| is_letter_or_digit(character))
 }
 
-// Whether a value lies from one to another.
-fn is_between(low: u64, value: u64, high: u64) -> bool
-    ensures { result ≡ (nat_le low value && nat_le value high) }
-{
-    low <= value && value <= high
-}
-
-// Whether a low and a high wait are within their limits.
-fn are_waits(low: u64, high: u64) -> bool
-    ensures { result ≡ (nat_le 1000 low && (nat_le low high && nat_le high 600000)) }
-{
-    1_000 <= low && is_between(low, high, 600_000)
+impl Setting {
+    // The setting's number.
+    pub fn number(self) -> u8
+        ensures { result ≡ setting_number self }
+    {
+        self as u8
+    }
 }
 
 impl Settings {
-    // Whether the setting of a number is within its limits.
-    fn is_good(&self, number: u8) -> bool
-        ensures { result ≡ setting_good self.now number }
+    // Whether a setting is within its limits.
+    fn is_good(&self, setting: Setting) -> bool
+        ensures { result ≡ setting_good self.now setting }
     {
-        match number {
-            1 => is_address(&self.registration),
-            2 => is_letter(self.originator),
-            3 => is_flight(&self.flight),
-            4 => are_waits(self.low, self.high),
-            5 => is_between(1, self.limit as u64, 15),
-            _ => is_between(self.high, self.contact, 3_600_000),
+        match setting {
+            Setting::Registration => is_address(&self.registration),
+            Setting::Originator => is_letter(self.originator),
+            Setting::Flight => is_flight(&self.flight),
+            Setting::Waits => 1_000 <= self.low && (self.low..=600_000).contains(&self.high),
+            Setting::Limit => (1..=15).contains(&self.limit),
+            Setting::Contact => (self.high..=3_600_000).contains(&self.contact),
         }
     }
 
-    // The number of the first setting that is outside its limits, if one is.
-    pub fn first_bad(&self) -> Option<u8>
-        ensures { MatchOption result (Good self.now) (λ n. FirstBad self.now n) }
+    // The first of some settings that is outside its limits, if one is.
+    fn first_bad_of(&self, settings: &[Setting]) -> Option<Setting>
+        ensures { result ≡ find (λ k. not (setting_good self.now k)) settings.now }
     {
-        for number in 1..7u8 {
-            if !self.is_good(number) {
-                return Some(number);
-            }
-        }
-        None
+        settings
+            .iter()
+            .copied()
+            .find(|&setting| !self.is_good(setting))
+    }
+
+    // The first setting that is outside its limits, if one is.
+    pub fn first_bad(&self) -> Option<Setting>
+        ensures { MatchOption result (Good self.now) (FirstBad self.now) }
+    {
+        self.first_bad_of(&SETTINGS)
     }
 }

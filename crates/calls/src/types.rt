@@ -1,7 +1,7 @@
 // What the calls of an end are given, and what they answer.
 
-// The settings of an end: 1 registration, 2 originator, 3 flight, 4 low and high wait in milliseconds, 5 try limit, 6 contact wait in milliseconds.
-#[derive(Clone, Copy)]
+// The settings of an end; both waits and the contact wait in milliseconds.
+#[derive(Clone, Copy, PartialEq, Eq, Debug)]
 pub struct Settings {
     pub registration: [u8; 7],
     pub originator: u8,
@@ -12,8 +12,21 @@ pub struct Settings {
     pub contact: u64,
 }
 
+// A setting of an end, by its number; the low and the high wait are one.
+#[derive(Clone, Copy, PartialEq, Eq, Debug)]
+pub enum Setting {
+    Registration = 1,
+    Originator,
+    Flight,
+    Waits,
+    // the try limit
+    Limit,
+    // the contact wait
+    Contact,
+}
+
 // The two characters of a message's label.
-#[derive(Clone, Copy)]
+#[derive(Clone, Copy, PartialEq, Eq, Debug)]
 pub struct Label(pub [u8; 2]);
 
 // What a message sent came to.

@@ -1,36 +1,20 @@
--- Stores that hold no message. Assumes nothing.
-use Rattle.std.proofs.Common.{◌≡◌, ℕ, ◌≤◌, false, leb, List, [], ◌∷◌, length, None, refl, arith, lit<, lit≤}
-use Rattle.stores.specs.Held.{Stored, record_at}
+-- A store that holds no message, and the waits of good settings. Assumes nothing.
+use Rattle.std.proofs.Common.{◌≡◌, ◌≤◌, leb, List, [], ◌∷◌, None, refl}
+use Rattle.stores.specs.Held.{Stored, text_at}
 use Rattle.calls.specs.declared.types.Settings.{Settings}
-use Rattle.ends.specs.declared.types.Cell.{Cell}
-use Rattle.calls.specs.declared.types.Label.{Label}
-use Rattle.ends.specs.Model.{Model, new_model}
+use Rattle.calls.specs.declared.types.Setting.TheVariants.{Waits, Contact}
 use Rattle.calls.specs.Setting.{Good}
 use Rattle.std.proofs.lemmas.Bool.{and_parts, leb-true}
 
--- an end that has done nothing yet, with messages
-abbrev fresh : Settings → List (Stored Cell) → List (Stored Label) → Model
-fresh s cells waiting = record {
-  settings = s;
-  outbox = record { numbered = 0; cells = cells; put = None; spent = 0; passing = false };
-  clock = record { time = 0; due = 0; tries = 0 };
-  inbox = record { accepted = None; owed = false; part = None; waiting = waiting };
-}
-
-pub fresh_empty : (s : Settings) (cells : List (Stored Cell)) (waiting : List (Stored Label)) → length cells ≡ 0 → length waiting ≡ 0 → fresh s cells waiting ≡ new_model s
-fresh_empty s [] [] p q = refl
-fresh_empty s (c ∷ cs) waiting p q = absurd (omega arith)
-fresh_empty s [] (w ∷ ws) p q = absurd (omega arith)
-
--- where there is no first record there is none
-pub none_first : {R : Type 0} (xs : List (Stored R)) → None ≡ record_at 0 xs → xs ≡ []
+-- where there is no first text there is no message
+pub none_first : {R : Type 0} (xs : List (Stored R)) → None ≡ text_at 0 xs → xs ≡ []
 none_first [] e = refl
-none_first (x ∷ xs) e = let z : ◌≡◌ {A = ℕ} 0 1 = cc in absurd (omega arith)
+none_first (x ∷ xs) e = cc
 
 -- the waits of good settings are within their limits
 pub waits_within : (s : Settings) → Good s → (s.low ≤ s.high) × (s.high ≤ 600000) × (s.contact ≤ 3600000)
 waits_within s g =
-    let w = (and_parts (leb 1000 s.low) _ (g 4 (lit≤ tt) (lit< tt))).1 in
+    let w = (and_parts (leb 1000 s.low) _ (g Waits)).1 in
     let a = and_parts (leb s.low s.high) (leb s.high 600000) w in
-    let b = and_parts (leb s.high s.contact) (leb s.contact 3600000) (g 6 (lit≤ tt) (lit< tt)) in
+    let b = and_parts (leb s.high s.contact) (leb s.contact 3600000) (g Contact) in
     (leb-true _ _ a.0, leb-true _ _ a.1, leb-true _ _ b.1)

@@ -1,7 +1,5 @@
 pub mod Countings
-pub mod Cuts
 pub mod Empty
-pub mod Places
-pub mod Sendings
-pub mod Wanted
-pub mod Withdrawing
+pub mod Founds
+pub mod Planning
+pub mod Staging

@@ -121,17 +121,17 @@ pub record ResponsePut {V : Type 0} (puts : V → List ℕ → V → Type 0) (w 
 
 -- a tick that sends by its plan
 abbrev pub Sends : {V : Type 0} → (V → List ℕ → V → Type 0) → Ways → Model → Plan → ℕ → ℕ → Ticked → Model → V → V → Type 0
-Sends puts w m (plan.Fresh i a) time draw r m' v v' =
-    (r ≡ ticked.Block) × BlockPut puts w m i a (fresh_identifier w.out.own m.outbox) v v' × (m' ≡ sent_fresh w m i a time draw)
-Sends puts w m (plan.Again i a) time draw r m' v v' =
-    (r ≡ ticked.Block) × BlockPut puts w m i a (last_identifier w.out.own m.outbox) v v' × (m' ≡ sent_again m time draw)
+Sends puts w m (plan.Fresh b) time draw r m' v v' =
+    (r ≡ ticked.Block) × BlockPut puts w m b.place b.index (fresh_identifier w.out.own m.outbox) v v' × (m' ≡ sent_fresh w m b.place b.index time draw)
+Sends puts w m (plan.Again b) time draw r m' v v' =
+    (r ≡ ticked.Block) × BlockPut puts w m b.place b.index (last_identifier w.out.own m.outbox) v v' × (m' ≡ sent_again m time draw)
 Sends puts w m plan.Response time draw r m' v v' = (r ≡ ticked.Response) × ResponsePut puts w m v v' × (m' ≡ sent_response m time)
 Sends puts w m plan.Nothing time draw r m' v v' = (r ≡ ticked.Nothing) × (v' ≡ v) × (m' ≡ sent_nothing m time)
 
 -- the fields of what a plan sends are not sound, and refused so: no end that only its own calls have changed meets this
 abbrev pub Unsound : Ways → Model → Plan → ℕ → Option ℕ → Type 0
-Unsound w m (plan.Fresh i a) n p = (c : Stored Cell) × (slice_get m.outbox.cells i ≡ Some c) × writing.Refusal w.out (block_fields w m c a (fresh_identifier w.out.own m.outbox)) (replicate 238 0) n p
-Unsound w m (plan.Again i a) n p = (c : Stored Cell) × (slice_get m.outbox.cells i ≡ Some c) × writing.Refusal w.out (block_fields w m c a (last_identifier w.out.own m.outbox)) (replicate 238 0) n p
+Unsound w m (plan.Fresh b) n p = (c : Stored Cell) × (slice_get m.outbox.cells b.place ≡ Some c) × writing.Refusal w.out (block_fields w m c b.index (fresh_identifier w.out.own m.outbox)) (replicate 238 0) n p
+Unsound w m (plan.Again b) n p = (c : Stored Cell) × (slice_get m.outbox.cells b.place ≡ Some c) × writing.Refusal w.out (block_fields w m c b.index (last_identifier w.out.own m.outbox)) (replicate 238 0) n p
 Unsound w m plan.Response n p = writing.Refusal w.out (response_fields w m) (replicate 238 0) n p
 Unsound w m plan.Nothing n p = ⊥
 
@@ -147,7 +147,7 @@ Ticks puts w m time draw (Err f) m' v v' = (m' ≡ m) × (v' ≡ v) × TickRefus
 
 -- the end with another receiving half
 abbrev pub with_inbox : Model → Inbox → Model
-with_inbox m i = record { settings = m.settings; outbox = m.outbox; clock = m.clock; inbox = i }
+with_inbox m i = record m { inbox = i }
 
 -- a message block is heard: the acknowledgment was counted, the receiving half does the rest
 abbrev pub BlockHeard : Ways → Model → hearing.Block → Result Heard LinkFault → Model → Type 0
@@ -189,12 +189,7 @@ pub record Collected (m : Model) (before : List ℕ) (label : Label) (n : ℕ) (
   pub label_is : label ≡ message.«record»
   pub long : n ≡ length message.text
   pub holds : buffer ≡ message.text ++ drop n before
-  pub after : m' ≡ with_inbox m (record { accepted = m.inbox.accepted; owed = m.inbox.owed; part = m.inbox.part; waiting = rest })
-
--- a text, if there is one, is copied to the start of a buffer; behind it what stood there
-abbrev pub Copies : Option (List ℕ) → List ℕ → ℕ → List ℕ → Type 0
-Copies None before n after = (n ≡ 0) × (after ≡ before)
-Copies (Some t) before n after = (n ≡ length t) × (after ≡ t ++ drop (length t) before)
+  pub after : m' ≡ with_inbox m (record m.inbox { waiting = rest })
 
 abbrev pub CollectRefused : Model → List ℕ → ℕ → Option ℕ → Type 0
 CollectRefused m buffer n (Some p) = ⊥

@@ -51,7 +51,7 @@ opened_part w b =
 
 abbrev pub continued_part : Ways → Block → Stored PartHead → Stored PartHead
 continued_part w b p =
-    stored (record { label = p.«record».label; mark = w.inn.text.reads b.text; blocks = suc p.«record».blocks })
+    stored (record p.«record» { mark = w.inn.text.reads b.text; blocks = suc p.«record».blocks })
     (lengthened p.text (drop w.inn.text.opening b.text))
 
 abbrev pub part_after : Ways → Joining → Option (Stored PartHead) → Block → Option (Stored PartHead)
@@ -62,14 +62,14 @@ part_after w Neither p b = None
 
 -- an acknowledgment is owed
 abbrev pub owing : Inbox → Inbox
-owing i = record { accepted = i.accepted; owed = true; part = i.part; waiting = i.waiting }
+owing i = record i { owed = true }
 
 -- the receiving half after a block was accepted: the part goes on, or it completes and joins the messages that wait
 abbrev pub accepted_part : Inbox → Block → Stored PartHead → Inbox
 accepted_part i b p =
     cond b.last
     (record { accepted = Some b.identifier; owed = true; part = None; waiting = i.waiting ++ stored p.«record».label p.text ∷ [] })
-    (record { accepted = Some b.identifier; owed = true; part = Some p; waiting = i.waiting })
+    (record i { accepted = Some b.identifier; owed = true; part = Some p })
 
 -- what a block does: its answer, and the receiving half after it
 pub record Answered : Type 0 where

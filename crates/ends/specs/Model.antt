@@ -17,7 +17,7 @@ pub record Ways : Type 0 where
   pub inn : Way
 
 -- the ways of an end, by the members of the traits of the two directions: it sends on the first
-abbrev pub ways : record {ring : RingRule; text : TextRule} → record {ring : RingRule; text : TextRule} → Ways
+abbrev pub ways : record { ring : RingRule; text : TextRule } → record { ring : RingRule; text : TextRule } → Ways
 ways o i = record { out = way o i.ring; inn = way i o.ring }
 
 -- the sending half: how many messages are numbered; the outgoing cells, oldest first; the identifier last put in a message block; how many identifiers are

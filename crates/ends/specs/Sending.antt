@@ -66,27 +66,30 @@ abbrev pub unsettled : Stage → Bool
 unsettled (Unsettled a out) = true
 unsettled (Settled o) = false
 
--- the place of the first outgoing message that is unsettled
+-- the place of the first outgoing message whose cell passes a test
 abbrev pub later : Option ℕ → Option ℕ
 later None = None
 later (Some i) = Some (suc i)
 
+abbrev pub place_where : (Cell → Bool) → List (Stored Cell) → Option ℕ
+place_where p [] = None
+place_where p (c ∷ cs) = cond (p c.«record») (Some 0) (later (place_where p cs))
+
+-- the place of the first outgoing message that is unsettled
 abbrev pub current_place : List (Stored Cell) → Option ℕ
-current_place [] = None
-current_place (c ∷ cs) = cond (unsettled c.«record».stage) (Some 0) (later (current_place cs))
+current_place cs = place_where (λ c. unsettled c.stage) cs
 
 -- the place of the unsettled outgoing message with a number
 abbrev pub place_of_number : ℕ → List (Stored Cell) → Option ℕ
-place_of_number n [] = None
-place_of_number n (c ∷ cs) = cond (c.«record».number == n && unsettled c.«record».stage) (Some 0) (later (place_of_number n cs))
+place_of_number n cs = place_where (λ c. c.number == n && unsettled c.stage) cs
 
 -- what a tick at a time is to send
 abbrev pub otherwise : Bool → Plan
 otherwise owed = cond owed Response Nothing
 
 abbrev pub plan_of_cell : Model → ℕ → ℕ → Stage → Plan
-plan_of_cell m time i (Unsettled a false) = Fresh i a
-plan_of_cell m time i (Unsettled a true) = cond (nat_le m.clock.due time) (Again i a) (otherwise m.inbox.owed)
+plan_of_cell m time i (Unsettled a false) = Fresh (record { place = i; index = a })
+plan_of_cell m time i (Unsettled a true) = cond (nat_le m.clock.due time) (Again (record { place = i; index = a })) (otherwise m.inbox.owed)
 plan_of_cell m time i (Settled o) = otherwise m.inbox.owed
 
 -- the plan of the first unsettled message of the cells from place i on
@@ -112,7 +115,7 @@ response_fields w m =
 
 -- a cell with another stage
 abbrev pub staged : Cell → Stage → Cell
-staged c s = record { number = c.number; label = c.label; stage = s }
+staged c s = record c { stage = s }
 
 abbrev pub stage_at : ℕ → Stage → List (Stored Cell) → List (Stored Cell)
 stage_at i s [] = []
@@ -121,21 +124,19 @@ stage_at (suc i) s (c ∷ cs) = c ∷ stage_at i s cs
 
 -- nothing is owed any more
 abbrev pub paid : Inbox → Inbox
-paid i = record { accepted = i.accepted; owed = false; part = i.part; waiting = i.waiting }
+paid i = record i { owed = false }
 
 -- a time is taken; a block is tried once more
 abbrev pub timed : Clock → ℕ → Clock
-timed c time = record { time = time; due = c.due; tries = c.tries }
+timed c time = record c { time = time }
 
 abbrev pub tried : Settings → ℕ → ℕ → ℕ → Clock
 tried s tries time draw = record { time = time; due = time + wait_after s tries draw; tries = tries }
 
 -- the end after a tick that sent a block for the first time, a block again, a response, nothing
 abbrev pub sent_fresh : Ways → Model → ℕ → ℕ → ℕ → ℕ → Model
-sent_fresh w m i a time draw = record {
-  settings = m.settings;
-  outbox = record {
-    numbered = m.outbox.numbered;
+sent_fresh w m i a time draw = record m {
+  outbox = record m.outbox {
     cells = stage_at i (Unsettled a true) m.outbox.cells;
     put = Some (fresh_identifier w.out.own m.outbox);
     spent = spent_by m.outbox;
@@ -146,35 +147,27 @@ sent_fresh w m i a time draw = record {
 }
 
 abbrev pub sent_again : Model → ℕ → ℕ → Model
-sent_again m time draw = record {
-  settings = m.settings;
-  outbox = m.outbox;
-  clock = tried m.settings (min (m.clock.tries + 1) 255) time draw;
-  inbox = paid m.inbox;
-}
+sent_again m time draw = record m { clock = tried m.settings (min (m.clock.tries + 1) 255) time draw; inbox = paid m.inbox }
 
 abbrev pub sent_response : Model → ℕ → Model
-sent_response m time = record { settings = m.settings; outbox = m.outbox; clock = timed m.clock time; inbox = paid m.inbox }
+sent_response m time = record m { clock = timed m.clock time; inbox = paid m.inbox }
 
 abbrev pub sent_nothing : Model → ℕ → Model
-sent_nothing m time = record { settings = m.settings; outbox = m.outbox; clock = timed m.clock time; inbox = m.inbox }
+sent_nothing m time = record m { clock = timed m.clock time }
 
 -- the end with other outgoing cells
 abbrev pub with_outbox : Model → Outbox → Model
-with_outbox m o = record { settings = m.settings; outbox = o; clock = m.clock; inbox = m.inbox }
+with_outbox m o = record m { outbox = o }
 
 abbrev pub with_cells : Outbox → List (Stored Cell) → Outbox
-with_cells o cs = record { numbered = o.numbered; cells = cs; put = o.put; spent = o.spent; passing = o.passing }
+with_cells o cs = record o { cells = cs }
 
 -- a new message in the newest cell
 abbrev pub submitted : Model → Label → List ℕ → Model
 submitted m label text =
-    with_outbox m (record {
+    with_outbox m (record m.outbox {
       numbered = suc m.outbox.numbered;
       cells = m.outbox.cells ++ stored (record { number = suc m.outbox.numbered; label = label; stage = Unsettled 0 false }) text ∷ [];
-      put = m.outbox.put;
-      spent = m.outbox.spent;
-      passing = m.outbox.passing;
     })
 
 -- the message at a place is withdrawn: in doubt if its last block has gone out, else not delivered; a begun one leaves its mark
@@ -183,11 +176,8 @@ withdrawn_as blocks s = Settled (cond (last_out blocks s) InDoubt NotDelivered)
 
 abbrev pub withdrawn : Ways → Model → ℕ → Stored Cell → Model
 withdrawn w m i c =
-    with_outbox m (record {
-      numbered = m.outbox.numbered;
+    with_outbox m (record m.outbox {
       cells = stage_at i (withdrawn_as (block_count w.out.text.room (length c.text)) c.«record».stage) m.outbox.cells;
-      put = m.outbox.put;
-      spent = m.outbox.spent;
       passing = m.outbox.passing || begun c.«record».stage;
     })
 
@@ -219,15 +209,10 @@ abbrev pub current_out : List (Stored Cell) → Bool
 current_out [] = false
 current_out (c ∷ cs) = cond (unsettled c.«record».stage) (is_out c.«record».stage) (current_out cs)
 
+-- the end after its current block is acknowledged
+abbrev pub moved_on : Ways → Model → Model
+moved_on w m = with_outbox m (record m.outbox { cells = acknowledged_cells w.out.text.room m.outbox.cells; spent = 0 })
+
 -- the end after an acknowledgment is counted
 abbrev pub counted : Ways → Model → Option ℕ → Model
-counted w m a =
-    cond (names a m.outbox.put && current_out m.outbox.cells)
-    (with_outbox m (record {
-      numbered = m.outbox.numbered;
-      cells = acknowledged_cells w.out.text.room m.outbox.cells;
-      put = m.outbox.put;
-      spent = 0;
-      passing = m.outbox.passing;
-    }))
-    m
+counted w m a = cond (names a m.outbox.put && current_out m.outbox.cells) (moved_on w m) m

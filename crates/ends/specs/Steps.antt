@@ -1,33 +1,28 @@
 -- What the parts of a tick and of a hear do.
 -- Assumes nothing.
-use Rattle.std.specs.Prelude.{◌≡◌, ℕ, ◌<◌, Bool, true, cond, List, [], ◌∷◌, ◌++◌, length, replicate, Some, None, Ok, Err, Option, Result}
+use Rattle.std.specs.Prelude.{◌≡◌, ℕ, ◌<◌, cond, List, replicate, Some, None, Ok, Err, Option, Result}
 use Rattle.std.specs.List.{slice_get}
 use Rattle.blocks.specs.declared.fault.BlockFault.{BlockFault}
 use Rattle.blocks.specs.Fields.{Fields, written}
 use Rattle.blocks.specs.Legal.{Way, Sound}
 use Rattle.blocks.specs.Faults.{number_of, place_of}
 use Rattle.writing.specs.Writing as writing
-use Rattle.stores.specs.Held.{Stored, stored}
+use Rattle.stores.specs.Held.{Stored}
 use Rattle.ends.specs.declared.types.Cell.{Cell}
 use Rattle.ends.specs.declared.types.Plan.{Plan}
 use Rattle.ends.specs.declared.types.Plan.TheVariants as plan
 use Rattle.ends.specs.declared.types.PartHead.{PartHead}
-use Rattle.ends.specs.Model.{Ways, Inbox, Model}
-use Rattle.ends.specs.Sending.{block_fields, acknowledged_cells, current_out, with_outbox}
+use Rattle.ends.specs.Model.{Ways, Model}
+use Rattle.ends.specs.Sending.{block_fields, current_out, moved_on}
 use Rattle.calls.specs.declared.fault.LinkFault.{LinkFault}
 use Rattle.calls.specs.declared.types.Heard.{Heard}
 use Rattle.ends.specs.Hearing as hearing
-use Rattle.ends.specs.Calls.{BlockPut}
-
--- a place of a list, if there is one
-abbrev pub Within : Option ℕ → ℕ → Type 0
-Within None n = Unit {0}
-Within (Some i) n = i < n
+use Rattle.ends.specs.Calls.{BlockPut, with_inbox}
 
 -- the cell that a plan names is there
 abbrev pub Planned : Plan → ℕ → Type 0
-Planned (plan.Fresh i a) n = i < n
-Planned (plan.Again i a) n = i < n
+Planned (plan.Fresh b) n = b.place < n
+Planned (plan.Again b) n = b.place < n
 Planned plan.Response n = Unit {0}
 Planned plan.Nothing n = Unit {0}
 
@@ -49,37 +44,15 @@ abbrev pub BlockSent : {V : Type 0} → (V → List ℕ → V → Type 0) → Wa
 BlockSent puts w m i a identifier (Ok _) v v' = BlockPut puts w m i a identifier v v'
 BlockSent puts w m i a identifier (Err x) v v' = (v' ≡ v) × BlockRefused w m i a identifier x
 
--- the length of a text, 0 where there is none
-abbrev pub length_of : Option (List ℕ) → ℕ
-length_of None = 0
-length_of (Some t) = length t
-
 -- the end after an acknowledgment that names the identifier last put
 abbrev pub acknowledged : Ways → Model → Model
-acknowledged w m =
-    cond (current_out m.outbox.cells)
-    (with_outbox m (record {
-      numbered = m.outbox.numbered;
-      cells = acknowledged_cells w.out.text.room m.outbox.cells;
-      put = m.outbox.put;
-      spent = 0;
-      passing = m.outbox.passing;
-    }))
-    m
+acknowledged w m = cond (current_out m.outbox.cells) (moved_on w m) m
 
--- the receiving half with another open part
-abbrev pub with_part : Inbox → Stored PartHead → Inbox
-with_part i p = record { accepted = i.accepted; owed = i.owed; part = Some p; waiting = i.waiting }
-
--- the receiving half after a block of the open part was accepted: the part goes on, or it completes and joins the messages that wait
-abbrev pub accepting : Inbox → ℕ → Bool → Stored PartHead → Inbox
-accepting i identifier last p =
-    cond last
-    (record { accepted = Some identifier; owed = true; part = None; waiting = i.waiting ++ stored p.«record».label p.text ∷ [] })
-    (record { accepted = Some identifier; owed = true; part = Some p; waiting = i.waiting })
+-- the part after a block that opens it, or continues another
+abbrev pub part_with : Ways → hearing.Block → Option (Stored PartHead) → Stored PartHead
+part_with w b None = hearing.opened_part w b
+part_with w b (Some p) = hearing.continued_part w b p
 
 -- a block whose part would be p is heard
-abbrev pub PartHeard : Inbox → ℕ → Bool → Stored PartHead → Result Heard LinkFault → Inbox → Type 0
-PartHeard i identifier last p r i' =
-    (r ≡ (hearing.joined i (record { identifier = identifier; label = p.«record».label; last = last; text = [] }) (Some p)).answer) ×
-    (i' ≡ (hearing.joined i (record { identifier = identifier; label = p.«record».label; last = last; text = [] }) (Some p)).inbox)
+abbrev pub PartHeard : Model → hearing.Block → Stored PartHead → Result Heard LinkFault → Model → Type 0
+PartHeard m b p r m' = (r ≡ (hearing.joined m.inbox b (Some p)).answer) × (m' ≡ with_inbox m (hearing.joined m.inbox b (Some p)).inbox)

@@ -1,5 +1,5 @@
 // Sending a block.
-ghost use Rattle.std.specs.Prelude.{◌≡◌, ◌+◌, ◌<◌, ◌≤◌, ◌++◌, length, take};
+ghost use Rattle.std.specs.Prelude.{◌≡◌, ◌<◌, ◌≤◌, ◌++◌, length};
 ghost use Rattle.blocks.specs.Fields.{fields_given};
 ghost use Rattle.ends.specs.Ends.{model};
 ghost use Rattle.stores.specs.Held.{stored};
@@ -9,14 +9,15 @@ ghost use Rattle.ends.specs.Model.{ways};
 ghost use Rattle.blocks.specs.Legal.{way};
 
 use crate::end::End;
-use crate::types::Cell;
+use crate::types::{Cell, Current};
+use arrayvec::ArrayVec;
 use blocks::{Block, BlockFault};
 use calls::Settings;
 use directions::{Direction, Identifier};
 use paths::AirPath;
 use writing::write;
 
-// How many blocks a text makes.
+// How many blocks a text of a length makes; an empty text is one.
 pub(crate) fn block_count<O: Direction>(length: usize) -> usize
     ensures { result ≡ block_count O.Direction.text.room length }
 {
@@ -26,7 +27,7 @@ pub(crate) fn block_count<O: Direction>(length: usize) -> usize
     } else if room == 0 {
         0
     } else {
-        (length - 1) / room + 1
+        length.div_ceil(room)
     }
 }
 
@@ -35,7 +36,7 @@ fn block_text<O: Direction>(text: &[u8], index: u8) -> &[u8]
     ensures value { result.now ≡ block_text O.Direction.text.room text.now index }
     ensures within { length result.now ≤ O.Direction.text.room }
 {
-    let start = (index as usize * O::room()).min(text.len());
+    let start = (usize::from(index) * O::room()).min(text.len());
     let end = (start + O::room()).min(text.len());
     &text[start..end]
 }
@@ -44,51 +45,29 @@ fn block_text<O: Direction>(text: &[u8], index: u8) -> &[u8]
 fn send<D: Direction, P: AirPath>(block: &Block<'_>, path: &mut P) -> Result<(), BlockFault>
     ensures { Sent P.AirPath.puts (way D.Direction D.Other.Ring.ring) (fields_given block.now) result (P.AirPath.sees path.old) (P.AirPath.sees path.new) }
 {
+    // A buffer and a length: `write` fills a slice that its caller holds.
     let mut buffer = [0u8; 238];
     let n = write::<D>(block, &mut buffer)?;
-    match path.put(&buffer[0..n]) {
-        Ok(()) => Ok(()),
-        Err(_) => unreachable(),
-    }
+    path.put(&buffer[..n]).unwrap();
+    Ok(())
 }
 
-// The opening of a block's text, in its first characters.
-fn opening_of<O: Direction>(originator: u8, flight: &[u8; 6], number: u64, index: u8) -> [u8; 10]
-    ensures value { take O.Direction.text.opening result ≡ O.Direction.text.opener originator flight.now number index }
-    ensures within { O.Direction.text.opening ≤ length result }
-    ensures long { length result ≡ 10 }
-{
-    O::opening(originator, flight, number, index)
-}
-
-// Copies two strings to the start of a buffer, one behind the other, and answers where they end.
-fn join(first: &[u8], second: &[u8], buffer: &mut [u8]) -> usize
-    requires { length first.now + length second.now ≤ length buffer.old }
-    ensures value { take result buffer.new ≡ first.now ++ second.now }
-    ensures end { result ≡ length first.now + length second.now }
-{
-    let middle = first.len();
-    let end = middle + second.len();
-    buffer[0..middle].copy_from_slice(first);
-    buffer[middle..end].copy_from_slice(second);
-    end
-}
-
-// Lays the text of a message's block with an index, its opening and its characters, and answers its length.
-fn lay_text<O: Direction>(
+// The text of a message's block with an index: its opening, and its characters.
+fn whole_text<O: Direction>(
     settings: &Settings,
     number: u64,
     index: u8,
     text: &[u8],
-    buffer: &mut [u8],
-) -> usize
-    requires { length buffer.old ≡ 220 }
-    ensures value { take result buffer.new ≡ O.Direction.text.opener settings.now.originator settings.now.flight number index ++ block_text O.Direction.text.room text.now index }
-    ensures within { result ≤ 220 }
+) -> ArrayVec<u8, 220>
+    ensures { result.items ≡ O.Direction.text.opener settings.now.originator settings.now.flight number index ++ block_text O.Direction.text.room text.now index }
 {
-    let opening = opening_of::<O>(settings.originator, &settings.flight, number, index);
-    let part = block_text::<O>(text, index);
-    join(&opening[0..O::opening_length()], part, buffer)
+    let opening = O::opening(settings.originator, &settings.flight, number, index);
+    let mut whole = ArrayVec::new();
+    whole.try_extend_from_slice(&opening).unwrap();
+    whole
+        .try_extend_from_slice(block_text::<O>(text, index))
+        .unwrap();
+    whole
 }
 
 impl<O: Direction<Other = I>, I: Direction<Other = O>> End<O, I> {
@@ -103,51 +82,42 @@ impl<O: Direction<Other = I>, I: Direction<Other = O>> End<O, I> {
     ) -> Result<(), BlockFault>
         ensures { Sent P.AirPath.puts (way O.Direction I.Ring.ring) (block_fields (ways O.Direction I.Direction) (model self.now) (stored cell text.now) index identifier.0) result (P.AirPath.sees path.old) (P.AirPath.sees path.new) }
     {
-        let mut buffer = [0u8; 220];
         let count = block_count::<O>(text.len());
-        let acknowledgment = self.owed();
-        let length = lay_text::<O>(&self.settings.values, cell.number, index, text, &mut buffer);
+        let whole = whole_text::<O>(&self.settings.values, cell.number, index, text);
         let block = Block::Message {
             address: &self.settings.values.registration,
-            acknowledgment,
+            acknowledgment: self.owed(),
             label: &cell.label.0,
             identifier,
-            last: index as usize + 1 == count,
-            text: &buffer[0..length],
+            last: usize::from(index) + 1 == count,
+            text: &whole,
         };
         send::<O, P>(&block, path)
     }
 
-    // Sends the current block of the outgoing message at a place.
+    // Sends a current block under an identifier.
     pub(crate) fn put_block<P: AirPath>(
         &self,
-        index: usize,
-        acknowledged: u8,
+        current: Current,
         identifier: Identifier,
         path: &mut P,
     ) -> Result<(), BlockFault>
-        requires { index < length (model self.now).outbox.cells }
-        ensures { BlockSent P.AirPath.puts (ways O.Direction I.Direction) (model self.now) index acknowledged identifier.0 result (P.AirPath.sees path.old) (P.AirPath.sees path.new) }
+        requires { current.place < length (model self.now).outbox.cells }
+        ensures { BlockSent P.AirPath.puts (ways O.Direction I.Direction) (model self.now) current.place current.index identifier.0 result (P.AirPath.sees path.old) (P.AirPath.sees path.new) }
     {
-        match self.sender.cells.record(index) {
-            Some(cell) => match self.sender.cells.text(index) {
-                Some(text) => self.send_block(cell, text, acknowledged, identifier, path),
-                None => unreachable(),
-            },
-            None => unreachable(),
-        }
+        let cell = self.sender.cells.record(current.place).unwrap();
+        let text = self.sender.cells.text(current.place).unwrap();
+        self.send_block(cell, text, current.index, identifier, path)
     }
 
     // Sends a general response.
     pub(crate) fn put_response<P: AirPath>(&self, path: &mut P) -> Result<(), BlockFault>
         ensures { Sent P.AirPath.puts (way O.Direction I.Ring.ring) (response_fields (ways O.Direction I.Direction) (model self.now)) result (P.AirPath.sees path.old) (P.AirPath.sees path.new) }
     {
-        let acknowledgment = self.owed();
-        let identifier = self.last_identifier();
         let block = Block::Response {
             address: &self.settings.values.registration,
-            acknowledgment,
-            identifier,
+            acknowledgment: self.owed(),
+            identifier: self.last_identifier(),
         };
         send::<O, P>(&block, path)
     }

@@ -1,8 +1,9 @@
 // An end of a link, in fixed memory.
 use crate::checked::Checked;
+use crate::memory::Memory;
 use crate::types::{Cell, Clock, PartHead};
-use calls::Label;
-use directions::Identifier;
+use calls::{Label, LinkFault, Settings};
+use directions::{Direction, Identifier};
 use std::marker::PhantomData;
 use stores::{MessageStore, Text};
 
@@ -35,4 +36,41 @@ pub struct End<O, I> {
     pub(crate) clock: Clock,
     pub(crate) receiver: Receiver,
     pub(crate) ways: PhantomData<(O, I)>,
+}
+
+impl<O: Direction<Other = I>, I: Direction<Other = O>> End<O, I> {
+    ghost use Rattle.ends.specs.Ends.{Made};
+
+    // An end with these settings that has no message, or the first setting that is outside its limits.
+    pub fn new(memory: Memory, settings: Settings) -> Result<End<O, I>, LinkFault>
+        ensures { Made settings result }
+    {
+        let settings = Checked::try_from(settings)?;
+        let sender = Sender {
+            numbered: 0,
+            cells: memory.cells,
+            put: None,
+            spent: 0,
+            passing: false,
+        };
+        let receiver = Receiver {
+            accepted: None,
+            owed: false,
+            part: None,
+            text: memory.text,
+            waiting: memory.waiting,
+        };
+        let clock = Clock {
+            time: 0,
+            due: 0,
+            tries: 0,
+        };
+        Ok(End {
+            settings,
+            sender,
+            clock,
+            receiver,
+            ways: PhantomData,
+        })
+    }
 }

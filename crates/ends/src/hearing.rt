@@ -1,69 +1,43 @@
 // What a block heard is to the receiving half.
-ghost use Rattle.std.specs.Prelude.{◌≡◌, suc, ◌%◌, ◌<◌, true, ◌&&◌, [], map, length, drop, Some, nat_le};
+ghost use Rattle.std.specs.Prelude.{◌≡◌, ◌<◌, true, ◌&&◌, [], cond, length, drop, nat_le};
 ghost use Rattle.stores.specs.Held.{stored, held};
-ghost use Rattle.ends.specs.Steps.{with_part, accepting, PartHeard};
 ghost use Rattle.stores.specs.Texts.{octets_of};
-ghost use Rattle.ends.specs.Ends.{model, inbox_of};
-ghost use Rattle.ends.specs.Hearing.{again, is_next, mark_of, owing, lengthened};
+ghost use Rattle.ends.specs.Ends.{model, inbox_of, part_of, block_of};
+ghost use Rattle.ends.specs.Hearing.{again, is_next, owing, lengthened, joining_of, accepted_part};
 ghost use Rattle.ends.specs.Calls.{BlockHeard};
+ghost use Rattle.ends.specs.Steps.{part_with, PartHeard};
 ghost use Rattle.ends.specs.Model.{ways};
 
 use crate::end::{End, Receiver};
-use crate::types::PartHead;
-use calls::{Heard, Label, LinkFault};
-use directions::{Direction, Identifier, Joining, Mark};
-use stores::Text;
-
-// Adds characters to a text, if they fit.
-pub(crate) fn lengthen(text: &mut Text, more: &[u8])
-    ensures { octets_of text.new ≡ lengthened (octets_of text.old) more.now }
-{
-    let _ = text.append(more);
-}
+use crate::types::{HeardBlock, PartHead};
+use calls::{Heard, LinkFault};
+use directions::{Direction, Identifier, Joining};
 
 impl Receiver {
     // Makes an acknowledgment owed.
-    pub(crate) fn owe(&mut self)
+    fn owe(&mut self)
         ensures { inbox_of self.new ≡ owing (inbox_of self.old) }
     {
         self.owed = true;
     }
 
-    // Opens a part with its first characters.
-    pub(crate) fn open(&mut self, head: PartHead, more: &[u8])
-        ensures held { inbox_of self.new ≡ with_part (inbox_of self.old) (stored head (lengthened [] more.now)) }
-        ensures part { self.new.part ≡ Some head }
-        ensures text { octets_of self.new.text ≡ lengthened [] more.now }
-        ensures waiting { held self.new.waiting ≡ held self.old.waiting }
+    // Accepts a block with its characters, as the newest of a part with a head: the part opens or goes on, and completes and waits if the block is a last one.
+    fn accept(&mut self, block: HeardBlock<'_>, opens: bool, head: PartHead, more: &[u8])
+        requires { block.last ≡ true → length (held self.old.waiting) < 4 }
+        ensures { inbox_of self.new ≡ accepted_part (inbox_of self.old) (block_of block.entry) (stored head (lengthened (cond opens [] (octets_of self.old.text)) more.now)) }
     {
-        self.text.clear();
-        lengthen(&mut self.text, more);
-        self.part = Some(head);
-    }
-
-    // Continues the part with more characters.
-    pub(crate) fn go_on(&mut self, head: PartHead, more: &[u8])
-        ensures held { inbox_of self.new ≡ with_part (inbox_of self.old) (stored head (lengthened (octets_of self.old.text) more.now)) }
-        ensures part { self.new.part ≡ Some head }
-        ensures text { octets_of self.new.text ≡ lengthened (octets_of self.old.text) more.now }
-        ensures waiting { held self.new.waiting ≡ held self.old.waiting }
-    {
-        lengthen(&mut self.text, more);
-        self.part = Some(head);
-    }
-
-    // Accepts the newest block of the open part: the part goes on, or it completes and waits.
-    pub(crate) fn accept(&mut self, identifier: Identifier, head: PartHead, last: bool)
-        requires part { self.old.part ≡ Some head }
-        requires room { last ≡ true → length (held self.old.waiting) < 4 }
-        ensures { inbox_of self.new ≡ accepting (inbox_of self.old) identifier.0 last (stored head (octets_of self.old.text)) }
-    {
-        self.accepted = Some(identifier);
-        self.owed = true;
-        if last {
+        if opens {
+            self.text.clear();
+        }
+        let _ = self.text.append(more);
+        if block.last {
             let _ = self.waiting.push(head.label, self.text.as_slice());
             self.part = None;
+        } else {
+            self.part = Some(head);
         }
+        self.accepted = Some(block.identifier);
+        self.owed = true;
     }
 
     // Whether a block cannot be taken: it is a last one and four messages wait.
@@ -72,150 +46,83 @@ impl Receiver {
     {
         last && 4 <= self.waiting.len()
     }
-
-    // Hears a block that opens a part.
-    pub(crate) fn hear_opening(
-        &mut self,
-        identifier: Identifier,
-        head: PartHead,
-        last: bool,
-        more: &[u8],
-    ) -> Result<Heard, LinkFault>
-        ensures { PartHeard (inbox_of self.old) identifier.0 last (stored head (lengthened [] more.now)) result (inbox_of self.new) }
-    {
-        if 16 < head.blocks {
-            return Err(LinkFault::Seventeenth);
-        }
-        if self.is_crowded(last) {
-            return Err(LinkFault::Crowded);
-        }
-        self.open(head, more);
-        self.accept(identifier, head, last);
-        if last {
-            Ok(Heard::Complete)
-        } else {
-            Ok(Heard::Part)
-        }
-    }
-
-    // Hears a block that continues the open part, and says its place by a mark.
-    pub(crate) fn hear_continuing(
-        &mut self,
-        identifier: Identifier,
-        part: PartHead,
-        mark: Mark,
-        last: bool,
-        more: &[u8],
-    ) -> Result<Heard, LinkFault>
-        ensures { PartHeard (inbox_of self.old) identifier.0 last (stored (record { label = part.label; mark = mark; blocks = suc part.blocks }) (lengthened (octets_of self.old.text) more.now)) result (inbox_of self.new) }
-    {
-        if 16 <= part.blocks {
-            return Err(LinkFault::Seventeenth);
-        }
-        if self.is_crowded(last) {
-            return Err(LinkFault::Crowded);
-        }
-        let head = PartHead {
-            label: part.label,
-            mark,
-            blocks: part.blocks + 1,
-        };
-        self.go_on(head, more);
-        self.accept(identifier, head, last);
-        if last {
-            Ok(Heard::Complete)
-        } else {
-            Ok(Heard::Part)
-        }
-    }
 }
 
 // The message characters of a text, behind its opening.
 fn message_part<I: Direction>(text: &[u8]) -> &[u8]
     ensures { result.now ≡ drop I.Direction.text.opening text.now }
 {
-    let start = I::opening_length().min(text.len());
-    &text[start..text.len()]
+    &text[I::opening_length().min(text.len())..]
 }
 
 impl<O: Direction<Other = I>, I: Direction<Other = O>> End<O, I> {
     // Whether the identifier is the one last accepted.
-    pub(crate) fn is_again(&self, identifier: Identifier) -> bool
+    fn is_again(&self, identifier: Identifier) -> bool
         ensures { result ≡ again (model self.now).inbox.accepted identifier.0 }
     {
-        match self.receiver.accepted {
-            None => false,
-            Some(last) => last.0 == identifier.0,
-        }
+        self.receiver.accepted == Some(identifier)
     }
 
     // Whether the identifier is the next after the one last accepted.
     fn is_next(&self, identifier: Identifier) -> bool
         ensures { result ≡ is_next I.Ring.ring (model self.now).inbox.accepted identifier.0 }
     {
-        match self.receiver.accepted {
-            None => false,
-            Some(last) => {
-                let following = I::following(last);
-                identifier.0 == following.0
-            }
-        }
+        self.receiver
+            .accepted
+            .is_some_and(|last| identifier == I::following(last))
     }
 
-    // What the open part's newest block said of its place.
-    fn part_mark(&self) -> Option<Mark>
-        ensures { result ≡ mark_of (model self.now).inbox.part }
+    // What a block does to the open part.
+    fn joining(&self, block: HeardBlock<'_>) -> Joining
+        ensures { result ≡ joining_of (ways O.Direction I.Direction) (model self.now).inbox (block_of block.entry) }
     {
-        match self.receiver.part {
-            None => None,
-            Some(part) => Some(part.mark),
-        }
+        let mark = self.receiver.part.map(|part| part.mark);
+        I::joining(mark, I::mark(block.octets), self.is_next(block.identifier))
     }
 
-    // What a block does to the open part, by its identifier and the octets of its text.
-    pub(crate) fn joining(&self, identifier: Identifier, octets: &[u8]) -> Joining
-        ensures { result ≡ I.Direction.text.joining (mark_of (model self.now).inbox.part) (I.Direction.text.reads (map (λ o. o % 128) octets.now)) (is_next I.Ring.ring (model self.now).inbox.accepted identifier.0) }
-    {
-        let part = self.part_mark();
-        let is_next = self.is_next(identifier);
-        I::joining(part, I::mark(octets), is_next)
-    }
-
-    // Hears a message block, by the octets of its text and the characters that they are.
-    pub(crate) fn hear_block(
+    // Hears a block that continues a part, or opens one.
+    fn hear_part(
         &mut self,
-        identifier: Identifier,
-        label: Label,
-        last: bool,
-        octets: &[u8],
-        text: &[u8],
+        block: HeardBlock<'_>,
+        continued: Option<PartHead>,
     ) -> Result<Heard, LinkFault>
-        requires { text.now ≡ map (λ o. o % 128) octets.now }
-        ensures { BlockHeard (ways O.Direction I.Direction) (model self.old) (record { identifier = identifier.0; label = label; last = last; text = text.now }) result (model self.new) }
+        ensures { PartHeard (model self.old) (block_of block.entry) (part_with (ways O.Direction I.Direction) (block_of block.entry) (part_of continued (octets_of self.old.receiver.text))) result (model self.new) }
     {
-        if self.is_again(identifier) {
+        let (label, blocks) = continued.map_or((block.label, 0), |part| (part.label, part.blocks));
+        if 16 <= blocks {
+            return Err(LinkFault::Seventeenth);
+        }
+        if self.receiver.is_crowded(block.last) {
+            return Err(LinkFault::Crowded);
+        }
+        let head = PartHead {
+            label,
+            mark: I::mark(block.octets),
+            blocks: blocks + 1,
+        };
+        let more = message_part::<I>(block.text);
+        self.receiver.accept(block, continued.is_none(), head, more);
+        Ok(if block.last {
+            Heard::Complete
+        } else {
+            Heard::Part
+        })
+    }
+
+    // Hears a message block.
+    pub(crate) fn hear_block(&mut self, block: HeardBlock<'_>) -> Result<Heard, LinkFault>
+        ensures { BlockHeard (ways O.Direction I.Direction) (model self.old) (block_of block.entry) result (model self.new) }
+    {
+        if self.is_again(block.identifier) {
             self.receiver.owe();
             return Ok(Heard::Duplicate);
         }
-        let mark = I::mark(octets);
-        let more = message_part::<I>(text);
-        match self.joining(identifier, octets) {
-            Joining::Opens => self.receiver.hear_opening(
-                identifier,
-                PartHead {
-                    label,
-                    mark,
-                    blocks: 1,
-                },
-                last,
-                more,
-            ),
-            Joining::Continues => match self.receiver.part {
-                Some(part) => self
-                    .receiver
-                    .hear_continuing(identifier, part, mark, last, more),
-                None => Err(LinkFault::Stray),
-            },
+        match self.joining(block) {
+            Joining::Opens => self.hear_part(block, None),
+            Joining::Continues => {
+                let part = self.receiver.part.ok_or(LinkFault::Stray)?;
+                self.hear_part(block, Some(part))
+            }
             Joining::Neither => Err(LinkFault::Stray),
         }
     }

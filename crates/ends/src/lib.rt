@@ -16,10 +16,9 @@ mod stages;
 mod submits;
 mod ticks;
 mod types;
-mod waits;
 mod withdraws;
 
 pub use calls::{Heard, Label, LinkFault, Outcome, Settings, Ticked};
 pub use end::End;
 pub use memory::Memory;
-pub use types::{Cell, Clock, PartHead, Plan, Stage};
+pub use types::{Cell, Clock, Current, PartHead, Plan, Stage};

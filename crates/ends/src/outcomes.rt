@@ -12,9 +12,7 @@ impl<O: Direction, I: Direction> End<O, I> {
     pub fn outcome(&mut self) -> Result<(u64, Outcome), LinkFault>
         ensures { Tells (model self.old) result (model self.new) }
     {
-        let Some(cell) = self.sender.cells.record(0) else {
-            return Err(LinkFault::Nothing);
-        };
+        let cell = self.sender.cells.record(0).ok_or(LinkFault::Nothing)?;
         let Stage::Settled(outcome) = cell.stage else {
             return Err(LinkFault::Nothing);
         };

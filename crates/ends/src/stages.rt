@@ -1,59 +1,63 @@
 // How far a message is.
-ghost use Rattle.std.specs.Prelude.{◌≡◌, ◌≤◌, ◌||◌};
-ghost use Rattle.ends.specs.Sending.{block_count, begun, last_out, withdrawn_as};
+ghost use Rattle.std.specs.Prelude.{◌≡◌};
+ghost use Rattle.ends.specs.Sending.{advanced, begun, is_out, last_out, unsettled, withdrawn_as};
 
 use crate::types::Stage;
 use calls::Outcome;
 
-// How many blocks a text of a length makes, with room for so many characters in a block; an empty text is one.
-pub(crate) fn block_count(room: usize, length: usize) -> usize
-    requires room { room ≤ 220 }
-    requires length { length ≤ 3520 }
-    ensures { result ≡ block_count room length }
-{
-    if length == 0 {
-        return 1;
+impl Stage {
+    // Whether the message is unsettled.
+    pub(crate) fn is_unsettled(self) -> bool
+        ensures { result ≡ unsettled self }
+    {
+        matches!(self, Stage::Unsettled { .. })
     }
-    if room == 0 {
-        return 0;
-    }
-    (length + room - 1) / room
-}
 
-// Whether a block of the message has gone out.
-pub(crate) fn is_begun(stage: Stage) -> bool
-    ensures { result ≡ begun stage }
-{
-    match stage {
-        Stage::Unsettled { acknowledged, out } => 0 < acknowledged || out,
-        Stage::Settled(_) => false,
+    // Whether the current block has gone out.
+    pub(crate) fn is_out(self) -> bool
+        ensures { result ≡ is_out self }
+    {
+        matches!(self, Stage::Unsettled { out: true, .. })
     }
-}
 
-// Whether the last of so many blocks has gone out.
-fn is_last_out(blocks: usize, stage: Stage) -> bool
-    ensures { result ≡ last_out blocks stage }
-{
-    match stage {
-        Stage::Unsettled { acknowledged, out } => out && acknowledged as usize + 1 == blocks,
-        Stage::Settled(_) => false,
+    // Whether a block of the message has gone out.
+    pub(crate) fn is_begun(self) -> bool
+        ensures { result ≡ begun self }
+    {
+        matches!(self, Stage::Unsettled { acknowledged, out } if 0 < acknowledged || out)
     }
-}
 
-// What a message comes to that is withdrawn: in doubt if its last block has gone out, else not delivered.
-pub(crate) fn withdrawn_as(blocks: usize, stage: Stage) -> Stage
-    ensures { result ≡ withdrawn_as blocks stage }
-{
-    if is_last_out(blocks, stage) {
-        Stage::Settled(Outcome::InDoubt)
-    } else {
-        Stage::Settled(Outcome::NotDelivered)
+    // Whether the last of so many blocks has gone out.
+    fn is_last_out(self, blocks: usize) -> bool
+        ensures { result ≡ last_out blocks self }
+    {
+        matches!(self, Stage::Unsettled { acknowledged, out } if out && usize::from(acknowledged) + 1 == blocks)
     }
-}
 
-// Whether the next new block passes over an identifier, once a message of this stage is withdrawn.
-pub(crate) fn passes(passing: bool, stage: Stage) -> bool
-    ensures { result ≡ (passing || begun stage) }
-{
-    passing || is_begun(stage)
+    // What a message of so many blocks comes to that is withdrawn: in doubt if its last block has gone out, else not delivered.
+    pub(crate) fn withdrawn(self, blocks: usize) -> Stage
+        ensures { result ≡ withdrawn_as blocks self }
+    {
+        if self.is_last_out(blocks) {
+            Stage::Settled(Outcome::InDoubt)
+        } else {
+            Stage::Settled(Outcome::NotDelivered)
+        }
+    }
+
+    // The stage of a message of so many blocks after its current block is acknowledged.
+    pub(crate) fn advanced(self, blocks: usize) -> Stage
+        ensures { result ≡ advanced blocks self }
+    {
+        match self {
+            Stage::Unsettled { acknowledged, .. } if usize::from(acknowledged) + 1 == blocks => {
+                Stage::Settled(Outcome::Delivered)
+            }
+            Stage::Unsettled { acknowledged, .. } => Stage::Unsettled {
+                acknowledged: acknowledged.saturating_add(1),
+                out: false,
+            },
+            Stage::Settled(_) => self,
+        }
+    }
 }

@@ -4,7 +4,7 @@ ghost use Rattle.ends.specs.Calls.{Submits};
 ghost use Rattle.ends.specs.Model.{ways};
 
 use crate::end::End;
-use crate::legal::{illegal_place, longest_text};
+use crate::legal::illegal_place;
 use crate::types::{Cell, Stage};
 use calls::{Label, LinkFault};
 use directions::Direction;
@@ -14,24 +14,22 @@ impl<O: Direction<Other = I>, I: Direction<Other = O>> End<O, I> {
     pub fn submit(&mut self, label: Label, text: &[u8]) -> Result<u64, LinkFault>
         ensures { Submits (ways O.Direction I.Direction) (model self.old) label text.now result (model self.new) }
     {
-        if let Some(place) = illegal_place(label, text, longest_text::<O>()) {
+        if let Some(place) = illegal_place::<O>(label, text) {
             return Err(LinkFault::Text { place });
         }
-        let Some(number) = self.sender.numbered.checked_add(1) else {
-            return Err(LinkFault::Full);
-        };
-        let stage = Stage::Unsettled {
-            acknowledged: 0,
-            out: false,
-        };
+        let number = self.sender.numbered.checked_add(1).ok_or(LinkFault::Full)?;
         let cell = Cell {
             number,
             label,
-            stage,
+            stage: Stage::Unsettled {
+                acknowledged: 0,
+                out: false,
+            },
         };
-        if !self.sender.cells.push(cell, text) {
-            return Err(LinkFault::Full);
-        }
+        self.sender
+            .cells
+            .push(cell, text)
+            .map_err(|_| LinkFault::Full)?;
         self.sender.numbered = number;
         Ok(number)
     }

@@ -1,83 +1,82 @@
 // Ticks: what an end sends at a time.
-ghost use Rattle.std.specs.Prelude.{◌≡◌, ◌^◌, ◌<◌, ◌≤◌, true, length};
+ghost use Rattle.std.specs.Prelude.{◌≡◌, ◌^◌, ◌≤◌, true, false, MatchOption};
 ghost use Rattle.ends.specs.Ends.{model, outbox_of};
-ghost use Rattle.ends.specs.Sending.{fresh_identifier, sent_fresh, sent_again, sent_response, sent_nothing, with_cells, stage_at, tried, plan_of};
-ghost use Rattle.ends.specs.Steps.{Planned};
+ghost use Rattle.ends.specs.Sending.{sent_fresh, sent_again, sent_response, with_cells, stage_at, tried};
 ghost use Rattle.ends.specs.Calls.{Ticks, on_time};
 ghost use Rattle.ends.specs.Model.{ways};
 
 use crate::end::{End, Sender};
-use crate::types::{Cell, Clock, Plan, Stage};
+use crate::types::{Cell, Clock, Current, Plan, Stage};
 use calls::{LinkFault, Ticked};
-use directions::{Direction, Identifier};
+use directions::Direction;
 use paths::AirPath;
+
+// The latest time that is taken.
+const LATEST: u64 = 1 << 62;
+
+// A time that is taken, and the draw that came with it.
+#[derive(Clone, Copy)]
+struct Moment {
+    time: u64,
+    draw: u64,
+    ghost within: { time ≤ 2 ^ 62 },
+}
 
 impl Sender {
     // Gives the message at a place another stage; where there is none, nothing.
-    pub(crate) fn set_stage(&mut self, index: usize, stage: Stage)
-        ensures { outbox_of self.new ≡ with_cells (outbox_of self.old) (stage_at index stage (outbox_of self.old).cells) }
+    pub(crate) fn set_stage(&mut self, place: usize, stage: Stage)
+        ensures { outbox_of self.new ≡ with_cells (outbox_of self.old) (stage_at place stage (outbox_of self.old).cells) }
     {
-        match self.cells.record(index) {
-            Some(cell) => self.cells.set_record(
-                index,
-                Cell {
-                    number: cell.number,
-                    label: cell.label,
-                    stage,
-                },
-            ),
-            None => {}
+        if let Some(cell) = self.cells.record(place) {
+            self.cells.set_record(place, Cell { stage, ..cell });
         }
     }
 }
 
 impl<O: Direction<Other = I>, I: Direction<Other = O>> End<O, I> {
-    // The clock after a try at a time.
-    fn tried(&self, tries: u8, time: u64, draw: u64) -> Clock
-        requires { time ≤ 2 ^ 62 }
-        ensures { result ≡ tried (model self.now).settings tries time draw }
+    // The moment of a tick, if its time is taken: it is not before the last one, and not too late.
+    fn moment(&self, time: u64, draw: u64) -> Option<Moment>
+        ensures { MatchOption result (on_time (model self.now) time ≡ false) (λ t. (on_time (model self.now) time ≡ true) × (t.time ≡ time) × (t.draw ≡ draw)) }
+    {
+        if self.clock.time <= time && time <= LATEST {
+            Some(Moment { time, draw })
+        } else {
+            None
+        }
+    }
+
+    // The clock after a try.
+    fn tried(&self, tries: u8, moment: Moment) -> Clock
+        ensures { result ≡ tried (model self.now).settings tries moment.time moment.draw }
     {
         Clock {
-            time,
-            due: time + self.settings.wait(tries, draw),
+            time: moment.time,
+            due: moment.time + self.settings.wait(tries, moment.draw),
             tries,
         }
     }
 
     // Notes that a block went out for the first time.
-    fn note_fresh(
-        &mut self,
-        index: usize,
-        acknowledged: u8,
-        identifier: Identifier,
-        time: u64,
-        draw: u64,
-    )
-        requires time { time ≤ 2 ^ 62 }
-        requires identifier { identifier.0 ≡ fresh_identifier O.Ring.ring (model self.old).outbox }
-        ensures { model self.new ≡ sent_fresh (ways O.Direction I.Direction) (model self.old) index acknowledged time draw }
+    fn note_fresh(&mut self, current: Current, moment: Moment)
+        ensures { model self.new ≡ sent_fresh (ways O.Direction I.Direction) (model self.old) current.place current.index moment.time moment.draw }
     {
-        let spent = self.spent_by();
-        self.clock = self.tried(1, time, draw);
-        self.sender.set_stage(
-            index,
-            Stage::Unsettled {
-                acknowledged,
-                out: true,
-            },
-        );
-        self.sender.put = Some(identifier);
-        self.sender.spent = spent;
+        let stage = Stage::Unsettled {
+            acknowledged: current.index,
+            out: true,
+        };
+        self.clock = self.tried(1, moment);
+        self.sender.set_stage(current.place, stage);
+        self.sender.put = Some(self.fresh_identifier());
+        self.sender.spent = self.spent_by();
         self.sender.passing = false;
         self.receiver.owed = false;
     }
 
     // Notes that a block went out again.
-    fn note_again(&mut self, time: u64, draw: u64)
-        requires { time ≤ 2 ^ 62 }
-        ensures { model self.new ≡ sent_again (model self.old) time draw }
+    fn note_again(&mut self, moment: Moment)
+        ensures { model self.new ≡ sent_again (model self.old) moment.time moment.draw }
     {
-        self.clock = self.tried(self.clock.tries.saturating_add(1), time, draw);
+        self.clock = self.tried(self.clock.tries.saturating_add(1), moment);
         self.receiver.owed = false;
     }
 
@@ -89,57 +88,6 @@ impl<O: Direction<Other = I>, I: Direction<Other = O>> End<O, I> {
         self.receiver.owed = false;
     }
 
-    // Notes a time at which nothing went out.
-    fn note_nothing(&mut self, time: u64)
-        ensures { model self.new ≡ sent_nothing (model self.old) time }
-    {
-        self.clock.time = time;
-    }
-
-    // Sends by a plan at a time.
-    fn send_by<P: AirPath>(
-        &mut self,
-        plan: Plan,
-        time: u64,
-        draw: u64,
-        path: &mut P,
-    ) -> Result<Ticked, LinkFault>
-        requires plan { plan ≡ plan_of (model self.old) time }
-        requires within { Planned plan (length (model self.old).outbox.cells) }
-        requires time { on_time (model self.old) time ≡ true }
-        ensures { Ticks P.AirPath.puts (ways O.Direction I.Direction) (model self.old) time draw result (model self.new) (P.AirPath.sees path.old) (P.AirPath.sees path.new) }
-    {
-        match plan {
-            Plan::Fresh {
-                index,
-                acknowledged,
-            } => {
-                let identifier = self.fresh_identifier();
-                self.put_block(index, acknowledged, identifier, path)?;
-                self.note_fresh(index, acknowledged, identifier, time, draw);
-                Ok(Ticked::Block)
-            }
-            Plan::Again {
-                index,
-                acknowledged,
-            } => {
-                let identifier = self.last_identifier();
-                self.put_block(index, acknowledged, identifier, path)?;
-                self.note_again(time, draw);
-                Ok(Ticked::Block)
-            }
-            Plan::Response => {
-                self.put_response(path)?;
-                self.note_response(time);
-                Ok(Ticked::Response)
-            }
-            Plan::Nothing => {
-                self.note_nothing(time);
-                Ok(Ticked::Nothing)
-            }
-        }
-    }
-
     // Sends what is due at a time: the current block, a response, or nothing.
     pub fn tick<P: AirPath>(
         &mut self,
@@ -149,10 +97,27 @@ impl<O: Direction<Other = I>, I: Direction<Other = O>> End<O, I> {
     ) -> Result<Ticked, LinkFault>
         ensures { Ticks P.AirPath.puts (ways O.Direction I.Direction) (model self.old) time draw result (model self.new) (P.AirPath.sees path.old) (P.AirPath.sees path.new) }
     {
-        if !self.on_time(time) {
-            return Err(LinkFault::Time);
+        let moment = self.moment(time, draw).ok_or(LinkFault::Time)?;
+        match self.plan(time) {
+            Plan::Fresh(current) => {
+                self.put_block(current, self.fresh_identifier(), path)?;
+                self.note_fresh(current, moment);
+                Ok(Ticked::Block)
+            }
+            Plan::Again(current) => {
+                self.put_block(current, self.last_identifier(), path)?;
+                self.note_again(moment);
+                Ok(Ticked::Block)
+            }
+            Plan::Response => {
+                self.put_response(path)?;
+                self.note_response(time);
+                Ok(Ticked::Response)
+            }
+            Plan::Nothing => {
+                self.clock.time = time;
+                Ok(Ticked::Nothing)
+            }
         }
-        let plan = self.plan(time);
-        self.send_by(plan, time, draw, path)
     }
 }

@@ -1,8 +1,9 @@
 -- What a store of messages holds, and what its calls do to it. Assumes nothing.
-use Rattle.std.specs.Prelude.{◌≡◌, ℕ, zero, suc, ◌<◌, ◌≤◌, Bool, true, false, ◌⊎◌, List, [], ◌∷◌, ◌++◌, length, take, drop, vec_items, Option}
+use Rattle.std.specs.Prelude.{◌≡◌, ℕ, zero, suc, ◌<◌, ◌≤◌, ◌⊎◌, List, [], ◌∷◌, ◌++◌, length, map, remove, vec_items, Some, None, Ok, Err, Option, Result}
 use Rattle.std.specs.Option.{option_map}
 use Rattle.std.specs.List.{slice_get}
-use Rattle.stores.specs.declared.text.Text.{Text}
+use Rattle.stores.specs.declared.text.NoRoom.{NoRoom}
+use Rattle.stores.specs.declared.store.Message.{Message}
 use Rattle.stores.specs.declared.store.MessageStore.{MessageStore}
 use Rattle.stores.specs.Texts.{octets_of}
 
@@ -15,15 +16,13 @@ pub record Stored (R : Type 0) : Type 0 where
 abbrev pub stored : {R : Type 0} → R → List ℕ → Stored R
 stored r t = record { «record» = r; text = t }
 
--- Records beside texts.
-abbrev pub paired : {R : Type 0} → List R → List Text → List (Stored R)
-paired [] ts = []
-paired (r ∷ rs) [] = []
-paired (r ∷ rs) (t ∷ ts) = stored r (octets_of t) ∷ paired rs ts
+-- What a message of the memory says.
+abbrev pub stored_of : {R : Type 0} → Message R → Stored R
+stored_of m = stored m.«record» (octets_of m.text)
 
 -- The messages in a store, oldest first.
 unfoldable pub held : {R : Type 0} → MessageStore R → List (Stored R)
-held s = paired (vec_items s.records) (vec_items s.texts)
+held s = map stored_of (vec_items s.messages)
 
 -- The record of the message at a place, if there is one.
 abbrev pub record_at : {R : Type 0} → ℕ → List (Stored R) → Option R
@@ -41,7 +40,7 @@ with_record (suc i) r (m ∷ ms) = m ∷ with_record i r ms
 
 -- Messages without the one at a place.
 abbrev pub without : {R : Type 0} → ℕ → List (Stored R) → List (Stored R)
-without i ms = take i ms ++ drop (suc i) ms
+without i ms = remove ms i
 
 -- A message was added as the newest: there was room for it, and its text fits.
 pub record Pushed {R : Type 0} (before : List (Stored R)) (r : R) (t : List ℕ) (after : List (Stored R)) : Type 0 where
@@ -55,14 +54,15 @@ pub record NotPushed {R : Type 0} (before : List (Stored R)) (t : List ℕ) (aft
   pub same : after ≡ before
 
 -- An addition of a message, by its answer.
-abbrev pub Pushes : {R : Type 0} → List (Stored R) → R → List ℕ → List (Stored R) → Bool → Type 0
-Pushes before r t after true = Pushed before r t after
-Pushes before r t after false = NotPushed before t after
+abbrev pub Pushes : {R : Type 0} → List (Stored R) → R → List ℕ → List (Stored R) → Result (Unit {0}) NoRoom → Type 0
+Pushes before r t after (Ok done) = Pushed before r t after
+Pushes before r t after (Err fault) = NotPushed before t after
 
--- The oldest message was freed.
-pub record Popped {R : Type 0} (before after : List (Stored R)) : Type 0 where
+-- The oldest message was freed, and it had this record.
+pub record Popped {R : Type 0} (before : List (Stored R)) (r : R) (after : List (Stored R)) : Type 0 where
+  pub first : record_at 0 before ≡ Some r
   pub some : 0 < length before
-  pub rest : after ≡ drop 1 before
+  pub rest : after ≡ without 0 before
 
 -- There was no message to free, and there is none.
 pub record NotPopped {R : Type 0} (before after : List (Stored R)) : Type 0 where
@@ -70,6 +70,6 @@ pub record NotPopped {R : Type 0} (before after : List (Stored R)) : Type 0 wher
   pub same : after ≡ before
 
 -- A freeing of the oldest message, by its answer.
-abbrev pub Pops : {R : Type 0} → List (Stored R) → List (Stored R) → Bool → Type 0
-Pops before after true = Popped before after
-Pops before after false = NotPopped before after
+abbrev pub Pops : {R : Type 0} → List (Stored R) → List (Stored R) → Option R → Type 0
+Pops before after (Some r) = Popped before r after
+Pops before after None = NotPopped before after

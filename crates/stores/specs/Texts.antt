@@ -1,6 +1,7 @@
 -- What a text holds, and what an addition does to it. Assumes nothing.
-use Rattle.std.specs.Prelude.{◌≡◌, ℕ, ◌+◌, ◌<◌, ◌≤◌, Bool, true, false, List, ◌++◌, length, vec_items}
+use Rattle.std.specs.Prelude.{◌≡◌, ℕ, ◌+◌, ◌<◌, ◌≤◌, List, ◌++◌, length, vec_items, Ok, Err, Result}
 use Rattle.stores.specs.declared.text.Text.{Text}
+use Rattle.stores.specs.declared.text.NoRoom.{NoRoom}
 
 -- The octets of a text.
 unfoldable pub octets_of : Text → List ℕ
@@ -17,6 +18,6 @@ pub record NotAppended (before more after : List ℕ) : Type 0 where
   pub same : after ≡ before
 
 -- An addition, by its answer.
-abbrev pub Appends : List ℕ → List ℕ → List ℕ → Bool → Type 0
-Appends before more after true = Appended before more after
-Appends before more after false = NotAppended before more after
+abbrev pub Appends : List ℕ → List ℕ → List ℕ → Result (Unit {0}) NoRoom → Type 0
+Appends before more after (Ok done) = Appended before more after
+Appends before more after (Err fault) = NotAppended before more after

@@ -5,4 +5,4 @@ mod store;
 mod text;
 
 pub use store::MessageStore;
-pub use text::Text;
+pub use text::{NoRoom, Text};
