@@ -2,6 +2,7 @@
 -- Assumes nothing.
 use Rattle.std.proofs.Common.{◌≡◌, ℕ, suc, ◌+◌, ◌-◌, ◌<◌, ◌≤◌, Bool, true, false, cond, eqb, ltb, leb, List, length, take, sym, refl, ap, ◌∙◌, subst, inl, inr, arith}
 use Rattle.std.proofs.lemmas.Bool.{eqb-true, cases_lt, cases_eq, cases_order, eq-eqb, ne_eqb, lt-ltb, le-ltb, le-leb, lt-leb, and_from}
+use Rattle.std.proofs.lemmas.Bool.Decides.{nat_tests}
 use Rattle.octets.specs.Parity.{character, octet}
 use Rattle.octets.proofs.Laws.{octet_character}
 use Rattle.directions.specs.Rings.{RingRule, member, Cyclic}
@@ -11,7 +12,7 @@ use Rattle.blocks.proofs.Strings.{string_of, string_length, string_at, front_sam
 use Rattle.blocks.proofs.Shapes.{Lawful, twelve}
 
 first_held : (r : RingRule) → Cyclic r → member r r.first ≡ true
-first_held r l = let m = l.many in and_from _ _ (le-leb r.first r.first (omega arith)) (lt-ltb r.first (r.first + r.size) (omega arith))
+first_held r l = let m = l.many in grind (arith, nat_tests)
 
 module _ (w : Way) (l : Lawful w) where
   -- a text character that is allowed at an index after any other
@@ -44,22 +45,7 @@ module _ (w : Way) (l : Lawful w) where
       (λ _. first_held w.own l.own) p a b
 
   rest_fills : (n p : ℕ) → Usable n → 13 ≤ p → p < n - 3 → (before : ℕ) → place_rule w n p before (filler n p) ≡ true
-  rest_fills n p us a b before =
-      let t : ltb p 13 ≡ false = le-ltb p 13 a in
-      elim (cases_eq n 17) [
-        | inl e ↦ let u : eqb n 17 ≡ true = eq-eqb n 17 e in rw (t, u)
-        | inr ne ↦
-            let u : eqb n 17 ≡ false = ne_eqb n 17 ne in
-            elim (cases_eq p 13) [
-              | inl e ↦ let v : eqb p 13 ≡ true = eq-eqb p 13 e in rw (t, u, v)
-              | inr nf ↦
-                  let v : eqb p 13 ≡ false = ne_eqb p 13 nf in
-                  elim (cases_lt p (n - 4)) [
-                    | inl h ↦ let x : ltb p (n - 4) ≡ true = lt-ltb p (n - 4) h in rw (t, u, v, x) (text_fills (p - 14) before)
-                    | inr h ↦ let x : ltb p (n - 4) ≡ false = le-ltb p (n - 4) h in rw (t, u, v, x)
-                  ]
-            ]
-      ]
+  rest_fills n p us a b before = let t = text_fills (p - 14) before in grind (arith, nat_tests)
 
   fills : (n p : ℕ) → Usable n → 1 ≤ p → p < n - 3 → (before : ℕ) → place_rule w n p before (filler n p) ≡ true
   fills n p us a b before =

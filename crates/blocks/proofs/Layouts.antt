@@ -1,9 +1,9 @@
 -- Sound fields lay out characters that keep the rules of their places, and those make the fields again. Assumes nothing.
-use Rattle.std.proofs.Common.{◌≡◌, ℕ, suc, ◌+◌, ◌-◌, ◌<◌, ◌≤◌, Bool, true, false, ◌&&◌, ◌||◌, eqb, ltb, leb, List, [], ◌∷◌, ◌++◌, map, length, Some, None, Option, sym, refl, ap, ◌∙◌, subst, inl, inr, arith, lit≤, length-append}
+use Rattle.std.proofs.Common.{◌≡◌, ℕ, suc, ◌+◌, ◌-◌, ◌<◌, ◌≤◌, Bool, true, false, ◌&&◌, ◌||◌, eqb, List, [], ◌∷◌, ◌++◌, map, length, Some, None, Option, sym, refl, ap, ◌∙◌, subst, inl, inr, arith, lit≤, length-append}
 use Rattle.std.specs.List.{range_with_len}
 use Rattle.std.proofs.lemmas.List.FromFn.{length-map-range_with_len, get_or-map-range_with_len, fill_by_all}
 use Rattle.std.proofs.lemmas.List.{get_or-drop, get_or_append_left, get_or_at, ext_get_or}
-use Rattle.std.proofs.lemmas.Bool.{and_parts, cases_lt, cases_order, eq-eqb, ne_eqb, or_left, or_right, leb-true}
+use Rattle.std.proofs.lemmas.Bool.{cases_lt, cases_order, eq-eqb, or_left, or_right}
 use Rattle.std.proofs.lemmas.Bool.Decides.{nat_tests}
 use Rattle.directions.specs.Rings.{RingRule, member, Cyclic}
 use Rattle.blocks.specs.Fields.{Head, Fields, response, message, laid, suffix, acknowledgment_character}
@@ -31,11 +31,7 @@ acknowledgment_rule r (Some c) h = or_right (eqb c 21) (member r c) h
 -- an identifier of a ring is not NAK
 acknowledgment_again : (r : RingRule) → Cyclic r → (a : Option ℕ) → acknowledges r a ≡ true → acknowledgment_of (acknowledgment_character a) ≡ a
 acknowledgment_again r l None h = refl
-acknowledgment_again r l (Some c) h =
-    let low : r.first ≤ c = leb-true r.first c (and_parts (leb r.first c) (ltb c (r.first + r.size)) h).0 in
-    let p = l.printable in
-    let e : eqb c 21 ≡ false = ne_eqb c 21 (λ q. omega arith) in
-    rw e
+acknowledgment_again r l (Some c) h = let p = l.printable in grind (arith, nat_tests)
 
 -- a list of seven, and of two, by its elements
 seven : (xs : List ℕ) → length xs ≡ 7 → xs ≡ map (at xs) (range_with_len 0 7)
@@ -188,9 +184,7 @@ module _ (w : Way) (lw : Lawful w) (a b c d e f g i : ℕ) (k : Option ℕ) wher
             ]
 
     limits : text_length w.text last (length T) ≡ true → (w.text.opening ≤ length T) × (length T ≤ w.text.opening + w.text.room)
-    limits q =
-        let p = and_parts (leb w.text.opening (length T)) _ q in
-        (leb-true _ _ p.0, leb-true _ _ (and_parts (leb (length T) (w.text.opening + w.text.room)) _ p.1).0)
+    limits q = (grind (arith, nat_tests), grind (arith, nat_tests))
 
     possible_here : possible w false (size_of full) ≡ true
     possible_here =

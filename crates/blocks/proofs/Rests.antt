@@ -3,9 +3,9 @@ use Rattle.std.proofs.Common.{◌≡◌, ℕ, ◌+◌, ◌-◌, ◌<◌, ◌≤�
 use Rattle.std.proofs.lemmas.Bool.{cases_lt}
 use Rattle.blocks.specs.Legal.{Way, at, text_allows}
 use Rattle.blocks.specs.Places.{ch, Kept, place_rule, BrokenAt}
-use Rattle.blocks.specs.Scans.{index_or, FirstFault}
+use Rattle.blocks.specs.Scans.{index_or, FirstFault, OfOctets}
 use Rattle.blocks.proofs.Steps.{range_more, text_rule, suffix_rule, start_rule}
-use Rattle.blocks.proofs.Scanning.{OfOctets, part_kept, part_broken}
+use Rattle.blocks.proofs.Scanning.{part_kept, part_broken}
 
 module _ (w : Way) (s : List ℕ) (long : 18 < length s) (start : ch s 13 ≡ 2) where
   abbrev m : ℕ

@@ -4,16 +4,12 @@ use Rattle.std.proofs.lemmas.List.{get_or-take, get_or-drop, length-take-le}
 use Rattle.octets.specs.Parity.{character}
 use Rattle.blocks.specs.Legal.{at}
 use Rattle.blocks.specs.Places.{ch}
-use Rattle.blocks.specs.Scans.{index_or, FirstFault}
+use Rattle.blocks.specs.Scans.{index_or, FirstFault, OfOctets}
 
 pub fault_by : {R S : ℕ → ℕ → ℕ → Bool → Type 0} {before : ℕ} {xs : List ℕ} {first : Option ℕ} → ((i b c : ℕ) (t : Bool) → R i b c t → S i b c t) →
     FirstFault R before xs first → FirstFault S before xs first
 fault_by {first = None} f h = record { kept = λ i u. f i _ _ _ (h.kept i u); broken = tt }
 fault_by {first = Some i} f h = record { kept = λ i u. f i _ _ _ (h.kept i u); broken = (h.broken.0, f i _ _ _ h.broken.1) }
-
--- the rule of characters, asked of octets
-abbrev pub OfOctets : (ℕ → ℕ → ℕ → Bool) → ℕ → ℕ → ℕ → Bool → Type 0
-OfOctets allows i before c t = t ≡ allows i (character before) (character c)
 
 -- xs are the m octets of a string from place a + 1 on
 module _ (allows : ℕ → ℕ → ℕ → Bool) (s xs : List ℕ) (a m : ℕ) (within : suc a + m ≤ length s) (is : xs ≡ take m (drop (suc a) s)) where

@@ -1,9 +1,8 @@
 -- Characters that keep the rules of their places are those of sound fields. Assumes nothing.
-use Rattle.std.proofs.Common.{◌≡◌, ℕ, zero, suc, ◌+◌, ◌-◌, ◌<◌, ◌≤◌, Bool, true, false, cond, ◌||◌, eqb, List, [], ◌∷◌, ◌++◌, map, Some, None, sym, refl, ap, ◌∙◌, add-zero, suc-add, arith}
+use Rattle.std.proofs.Common.{◌≡◌, ℕ, zero, suc, ◌+◌, ◌-◌, ◌<◌, ◌≤◌, Bool, true, false, ◌||◌, eqb, List, [], ◌∷◌, ◌++◌, map, sym, ap, ◌∙◌, add-zero, suc-add, arith}
 use Rattle.std.specs.List.{range_with_len}
 use Rattle.std.proofs.lemmas.List.FromFn.{map-range_with_len_more}
 use Rattle.std.proofs.lemmas.List.{map-append}
-use Rattle.std.proofs.lemmas.Bool.{eqb-true}
 use Rattle.std.proofs.lemmas.Bool.Decides.{nat_tests}
 use Rattle.directions.specs.Rings.{Cyclic}
 use Rattle.directions.specs.TextRules.{OpeningLaws}
@@ -60,11 +59,7 @@ counting_cat a (suc k) m = rw suc-add (ap (λ (xs : List ℕ). a ∷ xs) (counti
 
 module _ (g : ℕ → ℕ) where
   acknowledged : acknowledgment_character (acknowledgment_of (g 9)) ≡ g 9
-  acknowledged = go (eqb (g 9) 21) refl
-    where
-      go : (t : Bool) → eqb (g 9) 21 ≡ t → acknowledgment_character (cond t None (Some (g 9))) ≡ g 9
-      go true e = sym (eqb-true (g 9) 21 e)
-      go false e = refl
+  acknowledged = grind (arith, nat_tests)
 
   -- the head lies at places 1 to 12
   pub head_laid : (a b : ℕ) (rest : List ℕ) → g 1 ≡ 50 → a ≡ g 10 → b ≡ g 11 → headed (head_at g) (a ∷ b ∷ []) rest ≡ map g (range_with_len 1 12) ++ rest

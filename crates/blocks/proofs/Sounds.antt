@@ -1,5 +1,5 @@
 -- Characters that keep the rules of their places make sound fields, which lay them out again. Assumes nothing.
-use Rattle.std.proofs.Common.{◌≡◌, ℕ, zero, suc, ◌+◌, ◌-◌, ◌<◌, ◌≤◌, Bool, true, false, cond, ◌&&◌, ◌||◌, eqb, ltb, leb, List, [], ◌∷◌, ◌++◌, map, length, Some, None, sym, refl, ap, ◌∙◌, subst, inl, inr, arith, lit<, lit≤}
+use Rattle.std.proofs.Common.{◌≡◌, ℕ, zero, suc, ◌+◌, ◌-◌, ◌<◌, ◌≤◌, Bool, true, false, ◌&&◌, ◌||◌, eqb, ltb, leb, List, [], ◌∷◌, ◌++◌, map, length, sym, refl, ap, ◌∙◌, subst, inl, inr, arith, lit<, lit≤}
 use Rattle.std.specs.List.{range_with_len}
 use Rattle.std.proofs.lemmas.List.FromFn.{length-map-range_with_len, get_or-map-range_with_len}
 use Rattle.std.proofs.lemmas.Bool.{eqb-true, and_parts, cases_eq, ne_eqb, leb-true, ltb-true}
@@ -16,11 +16,7 @@ use Rattle.blocks.proofs.Shapes.{Lawful, Shaped, twelve, head_at, fields_if, fie
 
 -- an acknowledgment read from a character that its rule allows is sound
 acknowledges_of : (r : RingRule) (c : ℕ) → (eqb c 21 || member r c) ≡ true → acknowledges r (acknowledgment_of c) ≡ true
-acknowledges_of r c h = go (eqb c 21) refl
-  where
-    go : (t : Bool) → eqb c 21 ≡ t → acknowledges r (cond t None (Some c)) ≡ true
-    go true e = refl
-    go false e = let k : (false || member r c) ≡ true = subst (λ (b : Bool). (b || member r c) ≡ true) e h in k
+acknowledges_of r c h = grind (arith, nat_tests)
 
 length_fits : (t : TextRule) → t.opening + t.room ≡ 220 → (last : Bool) (m : ℕ) → t.opening ≤ m → m ≤ 220 → 0 < m → text_length t last m ≡ true
 length_fits t f last m a b c = grind (arith, nat_tests)

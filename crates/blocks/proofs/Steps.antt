@@ -1,7 +1,8 @@
 -- From place to place: what holds of a range of places, and how the rules of a string are kept one after the other.
 -- Assumes nothing.
-use Rattle.std.proofs.Common.{◌≡◌, ℕ, suc, ◌+◌, ◌-◌, ◌<◌, ◌≤◌, Bool, true, false, ◌&&◌, ◌||◌, eqb, ltb, leb, List, subst, inl, inr, arith}
-use Rattle.std.proofs.lemmas.Bool.{eqb-true, ltb-true, and_parts, lt-ltb, le-ltb, ne_eqb, cases_lt}
+use Rattle.std.proofs.Common.{◌≡◌, ℕ, suc, ◌-◌, ◌<◌, ◌≤◌, Bool, true, ◌||◌, eqb, List, subst, inl, inr, arith}
+use Rattle.std.proofs.lemmas.Bool.{cases_lt}
+use Rattle.std.proofs.lemmas.Bool.Decides.{nat_tests}
 use Rattle.blocks.specs.Legal.{Way, address_allows, text_allows}
 use Rattle.blocks.specs.Places.{ch, Kept, place_rule, possible, HeadBroken}
 use Rattle.blocks.specs.declared.fault.BlockFault.{BlockFault}
@@ -11,36 +12,19 @@ pub range_more : (P : ℕ → Type 0) (a b : ℕ) → ((p : ℕ) → a ≤ p →
 range_more P a b below here p l u =
     elim (cases_lt p b) [ inl h ↦ below p l h | inr h ↦ let e : b ≡ p = omega arith in subst P e here ]
 
-pub range_add : (P : ℕ → Type 0) (a b : ℕ) → ((p : ℕ) → a ≤ p → p < b → P p) → P b → (p : ℕ) → a ≤ p → p < b + 1 → P p
-range_add P a b below here p l u = range_more P a b below here p l (omega arith)
-
 -- the rule of a text character
 pub text_rule : (w : Way) (n p before c : ℕ) → 14 ≤ p → p < n - 4 → (n ≡ 17 → ⊥) → place_rule w n p before c ≡ text_allows w.text (p - 14) before c
-text_rule w n p before c h u ne =
-    let a : ltb p 13 ≡ false = le-ltb p 13 (omega arith) in
-    let b : eqb n 17 ≡ false = ne_eqb n 17 ne in
-    let d : eqb p 13 ≡ false = ne_eqb p 13 (λ e. omega arith) in
-    let f : ltb p (n - 4) ≡ true = lt-ltb p (n - 4) u in
-    rw (a, b, d, f)
+text_rule w n p before c h u ne = grind (arith, nat_tests)
 
 pub suffix_rule : (w : Way) (n p before c : ℕ) → p ≡ n - 4 → 18 < n → place_rule w n p before c ≡ (eqb c 3 || eqb c 23)
-suffix_rule w n p before c e h =
-    let a : ltb p 13 ≡ false = le-ltb p 13 (omega arith) in
-    let b : eqb n 17 ≡ false = ne_eqb n 17 (λ q. omega arith) in
-    let d : eqb p 13 ≡ false = ne_eqb p 13 (λ q. omega arith) in
-    let f : ltb p (n - 4) ≡ false = le-ltb p (n - 4) (omega arith) in
-    rw (a, b, d, f)
+suffix_rule w n p before c e h = grind (arith, nat_tests)
 
 pub start_rule : (w : Way) (n before c : ℕ) → 18 < n → place_rule w n 13 before c ≡ eqb c 2
-start_rule w n before c h = let b : eqb n 17 ≡ false = ne_eqb n 17 (λ q. omega arith) in rw b
+start_rule w n before c h = grind (arith, nat_tests)
 
 -- no block has 18 octets
 pub usable : (w : Way) (response : Bool) (n : ℕ) → possible w response n ≡ true → (n ≡ 17 → ⊥) → 18 < n
-usable w true n f ne = absurd (ne (eqb-true n 17 f))
-usable w false n f ne =
-    let z : eqb n 17 ≡ false = ne_eqb n 17 ne in
-    let h : (ltb 18 n && leb (18 + w.text.opening) n) ≡ true = rw z at f in
-    ltb-true 18 n (and_parts (ltb 18 n) (leb (18 + w.text.opening) n) h).0
+usable w response n f ne = grind (arith, nat_tests)
 
 module _ (w : Way) (n : ℕ) (s : List ℕ) where
   -- one part behind another
@@ -49,11 +33,7 @@ module _ (w : Way) (n : ℕ) (s : List ℕ) where
 
   -- places 2 to 8 are the address's
   pub address_rule : (p before c : ℕ) → 2 ≤ p → p < 9 → place_rule w n p before c ≡ address_allows (p - 2) before c
-  address_rule p before c l u =
-      let t : ltb p 13 ≡ true = lt-ltb p 13 (omega arith) in
-      let e : eqb p 1 ≡ false = ne_eqb p 1 (λ q. omega arith) in
-      let f : ltb p 9 ≡ true = lt-ltb p 9 u in
-      rw (t, e, f)
+  address_rule p before c l u = grind (arith, nat_tests)
 
 -- a part is kept, and the next is broken
 pub broken_on : (w : Way) (s : List ℕ) (a b : ℕ) (f : BlockFault) → a ≤ b → Kept w 17 (ch s) a b → HeadBroken w s b f → HeadBroken w s a f

@@ -1,9 +1,9 @@
 -- The first place at which no legal block agrees is the first that breaks its rule. Assumes nothing.
-use Rattle.std.proofs.Common.{◌≡◌, ℕ, zero, suc, ◌+◌, ◌-◌, ◌<◌, ◌≤◌, Bool, true, false, cond, ◌||◌, eqb, ltb, leb, List, ◌∷◌, map, length, take, sym, refl, ap, ◌∙◌, subst, inl, inr, arith, lit≤}
+use Rattle.std.proofs.Common.{◌≡◌, ℕ, zero, suc, ◌+◌, ◌-◌, ◌<◌, ◌≤◌, Bool, true, false, cond, eqb, ltb, List, ◌∷◌, map, length, take, sym, ap, ◌∙◌, subst, inl, inr, arith, lit≤}
 use Rattle.std.specs.List.{range_with_len}
 use Rattle.std.proofs.lemmas.List.FromFn.{length-map-range_with_len, get_or-map-range_with_len}
 use Rattle.std.proofs.lemmas.List.{ext_get_or}
-use Rattle.std.proofs.lemmas.Bool.{eqb-true, ltb-true, and_parts, or_cases, cases_lt, eq-eqb, ne_eqb, lt-ltb, le-ltb, le-leb, and_from, both_ways}
+use Rattle.std.proofs.lemmas.Bool.{eqb-true, or_cases, cases_lt, le-ltb, both_ways}
 use Rattle.std.proofs.lemmas.Bool.Decides.{nat_tests}
 use Rattle.octets.specs.Parity.{octet}
 use Rattle.directions.specs.Rings.{RingRule, member, Cyclic}
@@ -45,20 +45,13 @@ legal_shape w l t h =
     record { g = chars_of f; n = size_of f; shaped = (laid_out w l f h.sound).shaped; is = h.made ∙ written_is f }
 
 member_seven : (r : RingRule) → Cyclic r → (c : ℕ) → member r c ≡ true → c < 128
-member_seven r l c h =
-    let u : c < r.first + r.size = ltb-true c (r.first + r.size) (and_parts (leb r.first c) (ltb c (r.first + r.size)) h).1 in
-    let v = l.seven in
-    omega arith
+member_seven r l c h = let v = l.seven in grind (arith, nat_tests)
 
 address_seven : (i before c : ℕ) → address_allows i before c ≡ true → c < 128
 address_seven i before c h = grind (arith, nat_tests)
 
 text_seven : (t : TextRule) → OpeningLaws t → (i before c : ℕ) → text_allows t i before c ≡ true → c < 128
-text_seven t l i before c h = go (ltb i t.opening) refl
-  where
-    go : (b : Bool) → ltb i t.opening ≡ b → c < 128
-    go true e = l.seven i before c (rw e at h)
-    go false e = let k = rw e at h in grind (arith, nat_tests)
+text_seven t l i before c h = let s = l.seven i before c in grind (arith, nat_tests)
 
 module _ (w : Way) (l : Lawful w) where
   head_seven : (n p : ℕ) → 1 ≤ p → p < 13 → (before c : ℕ) → place_rule w n p before c ≡ true → c < 128
@@ -71,19 +64,7 @@ module _ (w : Way) (l : Lawful w) where
       p a b
 
   rest_seven : (n p before c : ℕ) → rest_rule w n p before c ≡ true → c < 128
-  rest_seven n p before c h = first (eqb n 17) refl
-    where
-      third : (t : Bool) → cond t (text_allows w.text (p - 14) before c) (eqb c 3 || eqb c 23) ≡ true → c < 128
-      third true k = text_seven w.text l.text (p - 14) before c k
-      third false k = grind (arith, nat_tests)
-
-      second : (t : Bool) → cond t (eqb c 2) (cond (ltb p (n - 4)) (text_allows w.text (p - 14) before c) (eqb c 3 || eqb c 23)) ≡ true → c < 128
-      second true k = omega (arith, eqb-true c 2 k)
-      second false k = third (ltb p (n - 4)) k
-
-      first : (t : Bool) → eqb n 17 ≡ t → c < 128
-      first true e = let k : eqb c 3 ≡ true = rw e at h in omega (arith, eqb-true c 3 k)
-      first false e = second (eqb p 13) (rw e at h)
+  rest_seven n p before c h = let s = text_seven w.text l.text (p - 14) before c in grind (arith, nat_tests)
 
   pub rule_seven : (n p before c : ℕ) → 1 ≤ p → place_rule w n p before c ≡ true → c < 128
   rule_seven n p before c a h =
@@ -94,7 +75,7 @@ module _ (w : Way) (l : Lawful w) where
 
   -- the rules of the head do not depend on the length
   pub head_any : (n m p before c : ℕ) → p < 13 → place_rule w n p before c ≡ place_rule w m p before c
-  head_any n m p before c h = let t : ltb p 13 ≡ true = lt-ltb p 13 h in rw t
+  head_any n m p before c h = grind (arith, nat_tests)
 
   pub kept_seven : (n : ℕ) (g : ℕ → ℕ) → Shaped w n g → (p : ℕ) → p < n - 3 → g p < 128
   kept_seven n g s zero h = omega (arith, s.start)
@@ -123,15 +104,7 @@ module _ (w : Way) (l : Lawful w) where
   shortest response = cond response 17 (cond (eqb w.text.opening 0) 17 (18 + w.text.opening))
 
   shortest_fits : (r : Bool) → possible w r (shortest r) ≡ true
-  shortest_fits true = refl
-  shortest_fits false = go (eqb w.text.opening 0) refl
-    where
-      go : (t : Bool) → eqb w.text.opening 0 ≡ t → possible w false (cond t 17 (18 + w.text.opening)) ≡ true
-      go true e = e
-      go false e =
-          let z : eqb (18 + w.text.opening) 17 ≡ false = ne_eqb (18 + w.text.opening) 17 (λ q. omega arith) in
-          let o : w.text.opening ≡ 0 → ⊥ = λ q. both_ways _ e (eq-eqb _ 0 q) in
-          rw z (and_from _ _ (lt-ltb 18 (18 + w.text.opening) (omega arith)) (le-leb (18 + w.text.opening) (18 + w.text.opening) (omega arith)))
+  shortest_fits r = grind (arith, nat_tests)
 
   shortest_is : (r : Bool) → (17 ≤ shortest r) × (shortest r ≤ 238) × ((shortest r ≡ 17 → ⊥) → 18 < shortest r)
   shortest_is r = let f = l.text.full in let o = w.text.opening in (grind (arith, nat_tests), grind (arith, nat_tests), grind (arith, nat_tests))

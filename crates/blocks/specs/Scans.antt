@@ -1,6 +1,7 @@
 -- The first character of a field that may not stand where it does.
 -- Assumes nothing.
-use Rattle.std.specs.Prelude.{ℕ, ◌<◌, Bool, true, false, List, ◌∷◌, length, Some, None, Option, IfSome}
+use Rattle.std.specs.Prelude.{◌≡◌, ℕ, ◌<◌, Bool, true, false, List, ◌∷◌, length, Some, None, Option, IfSome}
+use Rattle.octets.specs.Parity.{character}
 use Rattle.blocks.specs.Legal.{at}
 
 -- an index, or the length where there is none
@@ -12,3 +13,7 @@ index_or (Some i) n = i
 pub record FirstFault (Rule : ℕ → ℕ → ℕ → Bool → Type 0) (before : ℕ) (xs : List ℕ) (first : Option ℕ) : Type 0 where
   pub kept : (i : ℕ) → i < index_or first (length xs) → Rule i (at (before ∷ xs) i) (at xs i) true
   pub broken : IfSome first (λ i. (i < length xs) × Rule i (at (before ∷ xs) i) (at xs i) false)
+
+-- a rule of characters, asked of their octets
+abbrev pub OfOctets : (ℕ → ℕ → ℕ → Bool) → ℕ → ℕ → ℕ → Bool → Type 0
+OfOctets allows i before c allowed = allowed ≡ allows i (character before) (character c)

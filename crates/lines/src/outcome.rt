@@ -4,9 +4,6 @@ ghost use Rattle.lines.specs.Outcome.{LinesDetermined};
 
 // Carries a theorem: from one state and one string, one answer and one state, for both lines and for a fade box over
 // either.
-pub fn lines_determined() -> bool
-    ensures value { result ≡ true }
-    ensures law { LinesDetermined }
-{
-    true
-}
+pub fn lines_determined()
+    ensures { LinesDetermined }
+{}

@@ -23,9 +23,6 @@ fn advanced(value: u16, octet: u8) -> u16
 }
 
 // The definition of the check gives its known values.
-pub fn check_values_stand() -> u8
-    ensures value { result ≡ 0 }
-    ensures law { CheckValues }
-{
-    0
-}
+pub fn check_values_stand()
+    ensures { CheckValues }
+{}

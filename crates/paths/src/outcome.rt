@@ -6,9 +6,6 @@ ghost use Rattle.paths.specs.Fading.{FadePuts, FadeTakes};
 use crate::path::AirPath;
 
 // Carries a theorem: over a path whose outcomes are determined, those of a fade box are determined too.
-pub fn fade_box_determined<P: AirPath>() -> bool
-    ensures value { result ≡ true }
-    ensures law { Determined P.AirPath.puts P.AirPath.takes → Determined (FadePuts P.AirPath.puts) (FadeTakes P.AirPath.takes) }
-{
-    true
-}
+pub fn fade_box_determined<P: AirPath>()
+    ensures { Determined P.AirPath.puts P.AirPath.takes → Determined (FadePuts P.AirPath.puts) (FadeTakes P.AirPath.takes) }
+{}

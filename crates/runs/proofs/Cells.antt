@@ -1,7 +1,6 @@
 -- The outgoing cells of an end, and what they say of its sender. Assumes nothing.
 use Rattle.std.proofs.Common.{◌≡◌, ℕ, zero, suc, ◌*◌, ◌<◌, ◌≤◌, Bool, true, false, cond, eqb, List, [], ◌∷◌, ◌++◌, length, sym, refl, ap, ◌∙◌, subst, arith, ne_eqb, eqb-true}
-use Rattle.std.proofs.Math.Option.{none-ne-some}
-use mathlib.Core.Option.{some}
+use mathlib.Core.Option.{Option, none, some}
 use Rattle.stores.specs.Held.{Stored}
 use Rattle.blocks.specs.Legal.{at, is_label, is_text}
 use Rattle.ends.specs.declared.types.Cell.{Cell}
@@ -110,7 +109,7 @@ between_add lo hi (c ∷ cs) b h e u =
 
 -- a longer list bears the same numbers
 pub nth_add : (g more : List Message) (k : ℕ) (m : Message) → nth g k ≡ some m → nth (g ++ more) k ≡ some m
-nth_add [] more k m e = absurd (none-ne-some m e)
+nth_add [] more k m e = cc
 nth_add (x ∷ g) more zero m e = e
 nth_add (x ∷ g) more (suc k) m e = nth_add g more k m e
 

@@ -1,6 +1,5 @@
 -- A tick at the sending half: the block that it puts is one of the law's, or there is none to put. Assumes nothing.
 use Rattle.std.proofs.Common.{◌≡◌, ℕ, zero, suc, ◌+◌, ◌-◌, ◌≤◌, min, Bool, true, false, cond, List, [], ◌∷◌, length, Some, None, sym, refl, ap, ◌∙◌, subst, inl, inr, arith}
-use Rattle.std.proofs.lemmas.Option.{none-some}
 use mathlib.Core.Option.{Option, some}
 use native.Mathlib.Nat.{min-eq_left}
 use Rattle.std.specs.List.{slice_get}
@@ -35,7 +34,7 @@ cell_or_else (Some b) c = b
 
 pub holds_at : (room : ℕ) (g : List Message) (cs : List (Stored Cell)) (k : ℕ) (c : Stored Cell) → Holds room g cs → slice_get cs k ≡ Some c →
     GoodCell room c × (numbered g c.«record».number ≡ some (message c.«record».label.0 (cuts room c.text)))
-holds_at room g [] k c h e = absurd (none-some c e)
+holds_at room g [] k c h e = cc
 holds_at room g (b ∷ cs) zero c h e =
     subst (λ (x : Stored Cell). GoodCell room x × (numbered g x.«record».number ≡ some (message x.«record».label.0 (cuts room x.text))))
     (ap (λ (x : std.Option (Stored Cell)). cell_or_else x c) e) (h.0, h.1)

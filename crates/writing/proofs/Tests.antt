@@ -1,6 +1,7 @@
 -- How the tests of fields go on from place to place. Assumes nothing.
 use Rattle.std.proofs.Common.{◌≡◌, ℕ, suc, ◌+◌, ◌-◌, ◌<◌, ◌≤◌, true, false, ltb, List, ◌∷◌, length, Some, Option, sym, ◌∙◌, subst, inl, inr, arith, lit≤}
-use Rattle.std.proofs.lemmas.Bool.{cases_lt, lt-ltb, le-ltb}
+use Rattle.std.proofs.lemmas.Bool.{cases_lt, lt-ltb}
+use Rattle.std.proofs.lemmas.Bool.Decides.{nat_tests}
 use Rattle.blocks.specs.Fields.{Fields, response, message, head_of}
 use Rattle.blocks.specs.Legal.{Way, at, address_allows, head_allows, label_allows, TextKept, Sound}
 use Rattle.blocks.proofs.Steps.{range_more}
@@ -29,10 +30,7 @@ module _ (w : Way) (f : Fields) where
   -- places 2 to 8 are the address's
   pub address_place : (p : ℕ) → 2 ≤ p → p < 9 →
       head_allows w f p ≡ address_allows (p - 2) (at (50 ∷ (head_of f).address) (p - 2)) (at (head_of f).address (p - 2))
-  address_place p l u =
-      let a : ltb p 2 ≡ false = le-ltb p 2 l in
-      let b : ltb p 9 ≡ true = lt-ltb p 9 u in
-      rw (a, b)
+  address_place p l u = grind (arith, nat_tests)
 
   pub good_address : (i : ℕ) → i ≤ 7 → AddressGood (head_of f).address i → HeadGood w f (2 + i)
   good_address i h g q l u =

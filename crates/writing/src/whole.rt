@@ -18,6 +18,7 @@ pub fn write<D: Direction>(block: &Block<'_>, buffer: &mut [u8]) -> Result<usize
     }
     test_fields::<D>(block)?;
     let string = string_of(block);
-    buffer[..string.len()].copy_from_slice(&string);
-    Ok(string.len())
+    let length = string.len();
+    buffer[..length].copy_from_slice(&string);
+    Ok(length)
 }

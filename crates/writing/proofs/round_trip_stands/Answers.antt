@@ -1,5 +1,5 @@
 use Rattle.writing.proofs.Trips.{round_trips}
 use Rattle.writing.proofs.round_trip_stands.Goals as goal
 
-pub returns-clause-law : goal.returns-clause-law
-returns-clause-law c = round_trips
+pub returns : goal.returns
+returns c = round_trips

@@ -1,5 +1,5 @@
 use Rattle.lines.proofs.Functions.{lines_determined_lem}
 use Rattle.lines.proofs.outcome.lines_determined.Goals as goal
 
-pub returns-clause-law : goal.returns-clause-law
-returns-clause-law c = lines_determined_lem
+pub returns : goal.returns
+returns c = lines_determined_lem

@@ -3,6 +3,6 @@ use Rattle.std.proofs.Common.{refl}
 use Rattle.octets.specs.Check.{shifted, steps, advance, check_from, check}
 use Rattle.octets.proofs.checks.check_values_stand.Goals as goal
 
-pub returns-clause-law : goal.returns-clause-law
+pub returns : goal.returns
 unfolding shifted steps advance check_from check
-returns-clause-law c = (refl, refl)
+returns c = (refl, refl)

@@ -1,7 +1,6 @@
-use Rattle.std.proofs.Common.{◌≡◌, ℕ, Bool, true, false, length, Some, None, Option, sym, ap, ◌∙◌, subst, arith, lit≤}
+use Rattle.std.proofs.Common.{◌≡◌, true, length, Some, None, sym, ap, ◌∙◌, rules, arith, lit≤}
 use Rattle.std.proofs.lemmas.Bool.{true≢false}
-use Rattle.directions.specs.Rings.{RingRule, member}
-use Rattle.blocks.specs.Fields.{fields_given, head_of, named}
+use Rattle.blocks.specs.Fields.{fields_given, head_of}
 use Rattle.blocks.specs.Legal.{Way, acknowledges}
 use Rattle.writing.proofs.Tests.{good_nine, good_more, good_label, bad_label, bad_address, address_kept, address_bad}
 use Rattle.writing.proofs.fields.head_fault.Goals as goal
@@ -9,12 +8,6 @@ use Rattle.writing.proofs.fields.head_fault.Given as given
 
 abbrev way : given.Over → Way
 way g = record { own = g.D.Ring.ring; other = g.D.Other.Ring.ring; text = g.D.Direction.text }
-
-named_ok : (r : RingRule) (x y : Option ℕ) → x ≡ y → true ≡ acknowledges r x → acknowledges r y ≡ true
-named_ok r x y e h = subst (λ (z : Option ℕ). acknowledges r z ≡ true) e (sym h)
-
-held : (r : RingRule) (x y : ℕ) (b : Bool) → x ≡ y → b ≡ member r x → member r y ≡ b
-held r x y b e h = subst (λ (z : ℕ). member r z ≡ b) e (sym h)
 
 pub returns-in-Some : goal.returns-in-Some
 returns-in-Some g c =
@@ -28,7 +21,7 @@ pub returns-in-Some-label_fault : goal.returns-in-Some-label_fault
 returns-in-Some-label_fault g c =
     let f = fields_given c.args.block.now in
     let h = address_kept c.address.result.now (head_of f).address c.address.ensures c.address_fault.ensures.long None c.in_default.ensures.fault in
-    let k = named_ok g.D.Other.Ring.ring (named c.acknowledgment.result) (head_of f).acknowledgment c.acknowledgment.ensures c.if-not-is_acknowledgment.ensures in
+    let k : acknowledges g.D.Other.Ring.ring (head_of f).acknowledgment ≡ true = search rules in
     record {
       tested = bad_label (way g) f c.in-Some-label_fault.index (good_more (way g) f 9 (good_nine (way g) f h) k) c.in-Some-label_fault.ensures.tested;
       long = λ e. absurd (true≢false e);
@@ -38,14 +31,14 @@ pub returns-then-not-holds : goal.returns-then-not-holds
 returns-then-not-holds g c =
     let f = fields_given c.args.block.now in
     let h = address_kept c.address.result.now (head_of f).address c.address.ensures c.address_fault.ensures.long None c.in_default.ensures.fault in
-    let k = named_ok g.D.Other.Ring.ring (named c.acknowledgment.result) (head_of f).acknowledgment c.acknowledgment.ensures c.if-not-is_acknowledgment.ensures in
+    let k : acknowledges g.D.Other.Ring.ring (head_of f).acknowledgment ≡ true = search rules in
     let l = c.in_default-label_fault.ensures.tested in
     record {
       tested = record {
         from = lit≤ tt;
         until = lit≤ tt;
         before = good_label (way g) f (good_more (way g) f 9 (good_nine (way g) f h) k) l.0 l.1;
-        bad = held g.D.Ring.ring c.identifier.result.0 (head_of f).identifier false c.identifier.ensures c.if-not-holds.ensures;
+        bad = search rules;
       };
       long = λ e. absurd (true≢false e);
     }
@@ -54,11 +47,11 @@ pub returns : goal.returns
 returns g c =
     let f = fields_given c.args.block.now in
     let h = address_kept c.address.result.now (head_of f).address c.address.ensures c.address_fault.ensures.long None c.in_default.ensures.fault in
-    let k = named_ok g.D.Other.Ring.ring (named c.acknowledgment.result) (head_of f).acknowledgment c.acknowledgment.ensures c.if-not-is_acknowledgment.ensures in
+    let k : acknowledges g.D.Other.Ring.ring (head_of f).acknowledgment ≡ true = search rules in
     let l = c.in_default-label_fault.ensures.tested in
     record {
       tested = good_more (way g) f 12 (good_label (way g) f (good_more (way g) f 9 (good_nine (way g) f h) k) l.0 l.1)
-          (held g.D.Ring.ring c.identifier.result.0 (head_of f).identifier true c.identifier.ensures c.if-not-holds.ensures);
+          (search rules);
       long = λ e. record {
         address = ap length (sym c.address.ensures) ∙ c.address_fault.ensures.long;
         label = c.label_fault.ensures.long;

@@ -1,4 +1,4 @@
-use Rattle.std.proofs.Common.{◌≡◌, ℕ, ◌++◌, List, length, drop, sym, ap, ◌∙◌}
+use Rattle.std.proofs.Common.{◌≡◌, ℕ, ◌++◌, List, length, drop, ap, ◌∙◌}
 use Rattle.blocks.specs.Fields.{fields_given, written}
 use Rattle.blocks.specs.Legal.{Way}
 use Rattle.blocks.proofs.Shapes.{Lawful}
@@ -17,12 +17,10 @@ returns g c =
     let f = fields_given c.args.block.now in
     let s = c.in_ok-test_fields.ensures in
     let e : c.string_of-string.result.items ≡ written f = c.string_of-string.ensures ∙ laid_as (way g) (lawful g) f s in
-    let n : c.len-2.result ≡ length (written f) = c.len-2.ensures.value ∙ ap length e in
     let w : c.copy_from_slice.new.self ≡ written f = c.copy_from_slice.ensures.after ∙ c.deref.ensures.0 ∙ e in
     record {
       room = c.if-buffer-lt238.false;
       sound = s;
-      long = n;
-      holds = ap (λ (xs : List ℕ). xs ++ drop c.len.result c.args.buffer.now) w ∙
-          ap (λ (k : ℕ). written f ++ drop k c.args.buffer.now) (c.len.ensures.value ∙ sym c.len-2.ensures.value);
+      long = c.len-length.ensures.value ∙ ap length e;
+      holds = ap (λ (xs : List ℕ). xs ++ drop c.len-length.result c.args.buffer.now) w;
     }

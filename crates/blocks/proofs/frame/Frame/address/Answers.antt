@@ -1,8 +1,8 @@
 use Rattle.std.proofs.Common.{◌+◌, ◌<◌, None, Some, refl, ◌∙◌, rules, arith}
 use Rattle.blocks.specs.Legal.{at, address_allows}
-use Rattle.blocks.specs.Scans.{FirstFault}
+use Rattle.blocks.specs.Scans.{FirstFault, OfOctets}
 use Rattle.blocks.proofs.Steps.{address_rule}
-use Rattle.blocks.proofs.Scanning.{OfOctets, fault_by, part_kept, part_broken}
+use Rattle.blocks.proofs.Scanning.{fault_by, part_kept, part_broken}
 use Rattle.blocks.proofs.frame.Frame.address.Goals as goal
 
 pub returns-in-Some : goal.returns-in-Some
