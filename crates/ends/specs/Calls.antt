@@ -8,6 +8,7 @@ use Rattle.blocks.specs.Fields.{Fields, response, message, head_of, fields_read,
 use Rattle.blocks.specs.Legal.{at, is_label, is_text, Sound}
 use Rattle.blocks.specs.Reading.{Reads, pick}
 use Rattle.writing.specs.Writing as writing
+use Rattle.paths.specs.Meaning.{Added, Left}
 use Rattle.stores.specs.Held.{Stored}
 use Rattle.calls.specs.declared.fault.LinkFault.{LinkFault}
 use Rattle.calls.specs.declared.fault.LinkFault.TheVariants as fault
@@ -26,6 +27,14 @@ use Rattle.calls.specs.Faults.{number_of, place_of}
 use Rattle.ends.specs.Model.{Ways, Outbox, Inbox, Model}
 use Rattle.ends.specs.Sending.{begun, place_of_number, plan_of, block_fields, response_fields, fresh_identifier, last_identifier, sent_fresh, sent_again, sent_response, sent_nothing, submitted, withdrawn, counted, with_outbox, with_cells}
 use Rattle.ends.specs.Hearing as hearing
+
+-- PATHS: what is done to one is said twice, precisely as the path says, and in general of the strings that wait
+
+abbrev pub PutsBoth : {V : Type 0} → (V → List (List ℕ)) → (V → List ℕ → V → Type 0) → V → List ℕ → V → Type 0
+PutsBoth strings puts v s v' = puts v s v' × Added (strings v) s (strings v')
+
+abbrev pub TakesBoth : {V : Type 0} → (V → List (List ℕ)) → (V → Option (List ℕ) → V → Type 0) → V → Option (List ℕ) → V → Type 0
+TakesBoth strings takes v o v' = takes v o v' × Left (strings v) o (strings v')
 
 -- SUBMIT
 

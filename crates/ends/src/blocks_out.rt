@@ -7,6 +7,7 @@ ghost use Rattle.ends.specs.Sending.{block_count, block_text, block_fields, resp
 ghost use Rattle.ends.specs.Steps.{Sent, BlockSent};
 ghost use Rattle.ends.specs.Model.{ways};
 ghost use Rattle.blocks.specs.Legal.{way};
+ghost use Rattle.ends.specs.Calls.{PutsBoth};
 
 use crate::end::End;
 use crate::types::{Cell, Current};
@@ -43,7 +44,7 @@ fn block_text<O: Direction>(text: &[u8], index: u8) -> &[u8]
 
 // Writes a block and puts its string on a path; where its fields are not sound, nothing is put.
 fn send<D: Direction, P: AirPath>(block: &Block<'_>, path: &mut P) -> Result<(), BlockFault>
-    ensures { Sent P.AirPath.puts (way D.Direction D.Other.Ring.ring) (fields_given block.now) result (P.AirPath.sees path.old) (P.AirPath.sees path.new) }
+    ensures { Sent (PutsBoth P.AirPath.strings P.AirPath.puts) (way D.Direction D.Other.Ring.ring) (fields_given block.now) result (P.AirPath.sees path.old) (P.AirPath.sees path.new) }
 {
     // A buffer and a length: `write` fills a slice that its caller holds.
     let mut buffer = [0u8; 238];
@@ -80,7 +81,7 @@ impl<O: Direction<Other = I>, I: Direction<Other = O>> End<O, I> {
         identifier: Identifier,
         path: &mut P,
     ) -> Result<(), BlockFault>
-        ensures { Sent P.AirPath.puts (way O.Direction I.Ring.ring) (block_fields (ways O.Direction I.Direction) (model self.now) (stored cell text.now) index identifier.0) result (P.AirPath.sees path.old) (P.AirPath.sees path.new) }
+        ensures { Sent (PutsBoth P.AirPath.strings P.AirPath.puts) (way O.Direction I.Ring.ring) (block_fields (ways O.Direction I.Direction) (model self.now) (stored cell text.now) index identifier.0) result (P.AirPath.sees path.old) (P.AirPath.sees path.new) }
     {
         let count = block_count::<O>(text.len());
         let whole = whole_text::<O>(&self.settings.values, cell.number, index, text);
@@ -103,7 +104,7 @@ impl<O: Direction<Other = I>, I: Direction<Other = O>> End<O, I> {
         path: &mut P,
     ) -> Result<(), BlockFault>
         requires { current.place < length (model self.now).outbox.cells }
-        ensures { BlockSent P.AirPath.puts (ways O.Direction I.Direction) (model self.now) current.place current.index identifier.0 result (P.AirPath.sees path.old) (P.AirPath.sees path.new) }
+        ensures { BlockSent (PutsBoth P.AirPath.strings P.AirPath.puts) (ways O.Direction I.Direction) (model self.now) current.place current.index identifier.0 result (P.AirPath.sees path.old) (P.AirPath.sees path.new) }
     {
         let cell = self.sender.cells.record(current.place).unwrap();
         let text = self.sender.cells.text(current.place).unwrap();
@@ -112,7 +113,7 @@ impl<O: Direction<Other = I>, I: Direction<Other = O>> End<O, I> {
 
     // Sends a general response.
     pub(crate) fn put_response<P: AirPath>(&self, path: &mut P) -> Result<(), BlockFault>
-        ensures { Sent P.AirPath.puts (way O.Direction I.Ring.ring) (response_fields (ways O.Direction I.Direction) (model self.now)) result (P.AirPath.sees path.old) (P.AirPath.sees path.new) }
+        ensures { Sent (PutsBoth P.AirPath.strings P.AirPath.puts) (way O.Direction I.Ring.ring) (response_fields (ways O.Direction I.Direction) (model self.now)) result (P.AirPath.sees path.old) (P.AirPath.sees path.new) }
     {
         let block = Block::Response {
             address: &self.settings.values.registration,

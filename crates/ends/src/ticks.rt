@@ -2,7 +2,7 @@
 ghost use Rattle.std.specs.Prelude.{◌≡◌, ◌^◌, ◌≤◌, true, false, MatchOption};
 ghost use Rattle.ends.specs.Ends.{model, outbox_of};
 ghost use Rattle.ends.specs.Sending.{sent_fresh, sent_again, sent_response, with_cells, stage_at, tried};
-ghost use Rattle.ends.specs.Calls.{Ticks, on_time};
+ghost use Rattle.ends.specs.Calls.{PutsBoth, Ticks, on_time};
 ghost use Rattle.ends.specs.Model.{ways};
 
 use crate::end::{End, Sender};
@@ -95,7 +95,7 @@ impl<O: Direction<Other = I>, I: Direction<Other = O>> End<O, I> {
         draw: u64,
         path: &mut P,
     ) -> Result<Ticked, LinkFault>
-        ensures { Ticks P.AirPath.puts (ways O.Direction I.Direction) (model self.old) time draw result (model self.new) (P.AirPath.sees path.old) (P.AirPath.sees path.new) }
+        ensures { Ticks (PutsBoth P.AirPath.strings P.AirPath.puts) (ways O.Direction I.Direction) (model self.old) time draw result (model self.new) (P.AirPath.sees path.old) (P.AirPath.sees path.new) }
     {
         let moment = self.moment(time, draw).ok_or(LinkFault::Time)?;
         match self.plan(time) {
