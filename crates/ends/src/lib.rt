@@ -8,6 +8,7 @@ mod counts;
 mod end;
 mod finding;
 mod hearing;
+mod hears;
 mod legal;
 mod memory;
 mod outcomes;
