@@ -1,5 +1,5 @@
 -- The line of a string reads back as that string.
-use Rattle.std.proofs.Common.{◌≡◌, ℕ, zero, suc, ◌+◌, ◌*◌, ◌/◌, ◌%◌, ◌<◌, Bool, true, false, List, [], ◌∷◌, length, get_or, take, Some, None, sym, refl, ◌∙◌, subst, inl, inr, arith}
+use Rattle.std.proofs.Common.{◌≡◌, ℕ, zero, suc, ◌+◌, ◌*◌, ◌/◌, ◌%◌, ◌<◌, Bool, true, false, List, [], ◌∷◌, length, get_or, Some, None, sym, refl, ◌∙◌, subst, inl, inr, arith}
 use Rattle.std.specs.List.{AllByRecursion}
 use Rattle.std.proofs.lemmas.List.{ext_get_or}
 use Rattle.std.proofs.lemmas.Bool.Decides.{nat_tests}
@@ -45,10 +45,10 @@ line_apart h k s t line a b =
     )
 
 pub lines_read_back : LinesReadBack
-lines_read_back line before after None (none, same) = (λ h string is. none h string is, λ un. refl)
-lines_read_back line before after (Some r) read = (
-  λ h string is. line_apart r.heading h (take r.length after) string line read.string is,
-  λ un. absurd (un r.heading (take r.length after) read.string),
+lines_read_back line None none = (λ h string is. none h string is, λ un. refl)
+lines_read_back line (Some r) read = (
+  λ h string is. line_apart r.heading h r.string.items string line read is,
+  λ un. absurd (un r.heading r.string.items read),
 )
 
 -- the digits of a string, place by place
