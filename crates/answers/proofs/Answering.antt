@@ -1,8 +1,10 @@
 -- The answer to an input line.
-use Rattle.std.proofs.Common.{◌≡◌, ℕ, ◌+◌, ◌<◌, Bool, true, false, cond, ◌&&◌, ◌||◌, ltb, leb, List, map, length, Some, None, Ok, Err, Option, Result, refl, subst, arith, Bor}
+use Rattle.std.proofs.Common.{◌≡◌, ℕ, ◌+◌, ◌<◌, true, ◌&&◌, ◌||◌, ltb, leb, List, map, length, Some, None, Ok, Err, Option, Result, sym, refl, subst, arith, Bor}
 use Rattle.std.specs.Option.{option_map}
 use lib.ListN.{length-map}
-use Rattle.std.proofs.lemmas.Bool.{and_parts, leb-true, leb-false, le-leb}
+use Rattle.std.proofs.lemmas.Option.{cond_some}
+use Rattle.std.proofs.lemmas.Bool.Decides.{nat_tests}
+use Rattle.std.proofs.lemmas.Bool.{and_parts, leb-true, le-leb}
 use Rattle.octets.specs.Parity.{character}
 use Rattle.blocks.specs.declared.block.Block.{Block}
 use Rattle.blocks.specs.declared.block.Block.TheVariants.{Response, Message}
@@ -47,16 +49,10 @@ answered_unread line count text none e = record { outcome = unread; is = none; t
 
 -- what is kept of a line is the line, or it is too long
 told_some : (p l : List ℕ) → Some l ≡ told p → l ≡ p
-told_some p l e = go (leb (length p) 1024) e where
-  go : (t : Bool) → Some l ≡ cond t (Some p) None → l ≡ p
-  go true q = cc
-  go false q = let z : ◌≡◌ {A = ℕ} 0 1 = cc in absurd (omega arith)
+told_some p l e = sym (cond_some (leb (length p) 1024) p l (sym e)).1
 
 told_none : (p : List ℕ) → ◌≡◌ {A = Option (List ℕ)} None (told p) → 1024 < length p
-told_none p e = go (leb (length p) 1024) refl e where
-  go : (t : Bool) → leb (length p) 1024 ≡ t → ◌≡◌ {A = Option (List ℕ)} None (cond t (Some p) None) → 1024 < length p
-  go true q e = let z : ◌≡◌ {A = ℕ} 0 1 = cc in absurd (omega arith)
-  go false q e = leb-false (length p) 1024 q
+told_none p e = grind (arith, nat_tests)
 
 -- what is kept of a line is no string's, or the line is too long for any
 pub unread_kept :

@@ -1,9 +1,10 @@
 -- The splitter keeps the line so far, and cuts an input into its lines.
-use Rattle.std.proofs.Common.{◌≡◌, ℕ, ◌+◌, ◌<◌, Bool, true, false, cond, eqb, leb, List, [], ◌∷◌, ◌++◌, map, length, get_or, take, Some, None, Option, sym, refl, ap, ◌∙◌, append_assoc, arith, length-append}
-use Rattle.std.proofs.lemmas.Bool.{eqb-true, eqb-false, ltb-false, leb-false, lt-leb}
+use Rattle.std.proofs.Common.{◌≡◌, ℕ, ◌+◌, ◌<◌, ◌≤◌, eqb, List, [], ◌∷◌, ◌++◌, map, length, get_or, take, Some, None, Option, sym, refl, ap, ◌∙◌, append_assoc, arith, length-append}
+use Rattle.std.proofs.lemmas.Bool.{eqb-true, eqb-false}
+use Rattle.std.proofs.lemmas.Bool.Decides.{nat_tests}
 use Rattle.std.proofs.lemmas.List.Quantifiers.{position-Some}
 use Rattle.std.proofs.lemmas.List.Sums.{fails_before_first}
-use Rattle.std.specs.List.{flat_map, position}
+use Rattle.std.specs.List.{flat_map, position, position_or_len}
 use Rattle.std.proofs.lemmas.List.{take_more, get_or-take, append-nil, flat_map_more, map_push, length-take-le}
 use Rattle.std.proofs.ByRecursion.{All-push, All-append, All-from_get_or}
 use Rattle.recordings.specs.declared.splitter.Splitter.{Splitter}
@@ -11,13 +12,7 @@ use Rattle.recordings.specs.Split.{told, Unbroken, joined, Joins, Ended, closed,
 
 -- what is kept of a line takes octets behind it as the line does
 pub joined_told : (p octets : List ℕ) → joined (told p) octets ≡ told (p ++ octets)
-joined_told p octets = go (leb (length p) 1024) refl where
-  go : (t : Bool) → leb (length p) 1024 ≡ t → joined (cond t (Some p) None) octets ≡ told (p ++ octets)
-  go true e = refl
-  go false e =
-      let long = leb-false (length p) 1024 e in
-      let over : leb (length (p ++ octets)) 1024 ≡ false = lt-leb _ _ (omega (arith, length-append p octets)) in
-      rw over
+joined_told p octets = grind (arith, nat_tests, length-append p octets)
 
 -- an octet that is no line feed
 abbrev pub Plain : ℕ → Type 0
@@ -39,15 +34,10 @@ ended_at s t octets n first joins =
       joins = joins;
     }
 
--- a test that answers none failed
-none_le : {A : Type 0} (b : Bool) (x : A) → ◌≡◌ {A = Option A} None (cond b (Some x) None) → b ≡ false
-none_le true x e = cc
-none_le false x e = refl
-
 -- a piece with no line feed
 pub unbroken_all : (octets : List ℕ) → ◌≡◌ {A = Option ℕ} None (position (λ (x : ℕ). eqb x 10) octets) → Unbroken octets
 unbroken_all octets none =
-    let all = ltb-false _ _ (none_le _ _ none) in
+    let all : length octets ≤ position_or_len (λ (x : ℕ). eqb x 10) octets = grind (arith, nat_tests) in
     All-from_get_or Plain octets 0 (λ k below. eqb-false (get_or octets k 0) 10 (fails_before_first (λ (x : ℕ). eqb x 10) octets k 0 (omega arith)))
 
 pub lines_cut : LinesCut
