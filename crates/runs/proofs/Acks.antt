@@ -1,5 +1,5 @@
 -- Any acknowledgment that is heard: it counts, or it changes nothing. Assumes nothing.
-use Rattle.std.proofs.Common.{◌≡◌, ℕ, zero, suc, Bool, true, false, ◌&&◌, eqb, List, [], ◌∷◌, Some, None, sym, refl, ap, ◌∙◌, subst, arith, eqb-true}
+use Rattle.std.proofs.Common.{◌≡◌, ℕ, zero, suc, Bool, true, false, ◌&&◌, eqb, List, [], ◌∷◌, Some, None, sym, refl, ap, ◌∙◌, subst, eqb-true}
 use mathlib.Core.Option.{Option, none, some, some-injective}
 use borrow.Author.Tests.{eqb-false, clash}
 use Rattle.std.specs.declared.option.Option as std
