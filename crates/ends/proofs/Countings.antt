@@ -1,11 +1,10 @@
 -- What an acknowledgment does, by the first unsettled message. Assumes nothing.
-use Rattle.std.proofs.Common.{◌≡◌, ℕ, zero, suc, Bool, true, false, cond, List, [], ◌∷◌, length, Some, None, Option, sym, refl, ap, ◌∙◌, arith}
+use Rattle.std.proofs.Common.{◌≡◌, ℕ, zero, suc, Bool, true, false, cond, List, [], ◌∷◌, length, Some, None, sym, refl, ap, ◌∙◌}
 use Rattle.std.specs.List.{slice_get}
-use Rattle.stores.specs.Held.{Stored, stored}
+use Rattle.stores.specs.Held.{Stored}
 use Rattle.ends.specs.declared.types.Cell.{Cell}
-use Rattle.ends.specs.declared.types.Stage.{Stage}
 use Rattle.ends.specs.declared.finding.Found.{Found}
-use Rattle.ends.specs.Sending.{unsettled, later, current_place, is_out, current_out, advanced, block_count, staged, stage_at, acknowledged_cells, with_outbox, with_cells}
+use Rattle.ends.specs.Sending.{unsettled, later, current_place, is_out, current_out, advanced, block_count, stage_at, acknowledged_cells, with_outbox, with_cells}
 use Rattle.ends.specs.Model.{Outbox, Model}
 use Rattle.ends.specs.Finding.{Finds}
 use Rattle.ends.proofs.Founds.{found_there, not_later, later_zero, later_suc}

@@ -1,5 +1,5 @@
 -- A message with another stage. Assumes nothing.
-use Rattle.std.proofs.Common.{◌≡◌, ℕ, zero, suc, List, [], ◌∷◌, Some, None, sym, refl, ap, arith}
+use Rattle.std.proofs.Common.{◌≡◌, ℕ, zero, suc, List, [], ◌∷◌, Some, None, sym, refl, ap}
 use Rattle.stores.specs.Held.{Stored, stored, record_at, with_record}
 use Rattle.ends.specs.declared.types.Cell.{Cell}
 use Rattle.ends.specs.declared.types.Stage.{Stage}

@@ -11,10 +11,12 @@ use Rattle.ends.specs.declared.end.Receiver.{Receiver}
 use Rattle.ends.specs.declared.end.End.{End}
 use Rattle.ends.specs.declared.memory.Memory.{Memory}
 use Rattle.calls.specs.declared.types.Settings.{Settings}
+use Rattle.calls.specs.declared.types.Setting.{Setting}
 use Rattle.calls.specs.declared.fault.LinkFault.{LinkFault}
+use Rattle.calls.specs.declared.fault.LinkFault.TheVariants as fault
+use Rattle.ends.specs.declared.checked.Checked.{Checked}
 use Rattle.ends.specs.Model.{Outbox, Inbox, Model, new_model}
 use Rattle.ends.specs.Hearing as hearing
-use Rattle.calls.specs.Faults.{number_of, place_of}
 use Rattle.calls.specs.Setting.{Good, FirstBad}
 
 abbrev pub outbox_of : Sender → Outbox
@@ -38,11 +40,16 @@ pub record Unused (m : Memory) : Type 0 where
   pub waiting : held m.waiting ≡ []
   pub text : octets_of m.text ≡ []
 
+-- settings whose waits are within their limits: good ones, or the first that is not good is named
+abbrev pub Checks : Settings → Result Checked LinkFault → Type 0
+Checks s (Ok c) = Good s × (c.values ≡ s)
+Checks s (Err f) = (k : Setting) × (f ≡ fault.Setting k) × FirstBad s k
+
 module _ {O I : Type 0} where
   abbrev pub model : End O I → Model
   model e = record { settings = e.settings.values; outbox = outbox_of e.sender; clock = e.clock; inbox = inbox_of e.receiver }
 
-  -- making an end: the new end of good settings, or refusal 13 at the first that is not good
+  -- making an end: the new end of good settings, or the first that is not good is named
   abbrev pub Made : Settings → Result (End O I) LinkFault → Type 0
   Made s (Ok e) = Good s × (model e ≡ new_model s)
-  Made s (Err f) = (number_of f ≡ 13) × ((n : ℕ) × (place_of f ≡ Some n) × FirstBad s n)
+  Made s (Err f) = (k : Setting) × (f ≡ fault.Setting k) × FirstBad s k

@@ -1,18 +1,18 @@
 -- What the parts of a tick and of a hear do.
 -- Assumes nothing.
-use Rattle.std.specs.Prelude.{◌≡◌, ℕ, ◌<◌, Bool, true, cond, List, [], ◌∷◌, ◌++◌, length, replicate, Some, None, Ok, Err, Option, Result}
+use Rattle.std.specs.Prelude.{◌≡◌, ℕ, ◌<◌, cond, List, replicate, Some, None, Ok, Err, Option, Result}
 use Rattle.std.specs.List.{slice_get}
 use Rattle.blocks.specs.declared.fault.BlockFault.{BlockFault}
 use Rattle.blocks.specs.Fields.{Fields, written}
 use Rattle.blocks.specs.Legal.{Way, Sound}
 use Rattle.blocks.specs.Faults.{number_of, place_of}
 use Rattle.writing.specs.Writing as writing
-use Rattle.stores.specs.Held.{Stored, stored}
+use Rattle.stores.specs.Held.{Stored}
 use Rattle.ends.specs.declared.types.Cell.{Cell}
 use Rattle.ends.specs.declared.types.Plan.{Plan}
 use Rattle.ends.specs.declared.types.Plan.TheVariants as plan
 use Rattle.ends.specs.declared.types.PartHead.{PartHead}
-use Rattle.ends.specs.Model.{Ways, Inbox, Model}
+use Rattle.ends.specs.Model.{Ways, Model}
 use Rattle.ends.specs.Sending.{block_fields, current_out, moved_on}
 use Rattle.calls.specs.declared.fault.LinkFault.{LinkFault}
 use Rattle.calls.specs.declared.types.Heard.{Heard}

@@ -45,9 +45,7 @@ impl<O: Direction<Other = I>, I: Direction<Other = O>> End<O, I> {
     pub fn new(memory: Memory, settings: Settings) -> Result<End<O, I>, LinkFault>
         ensures { Made settings result }
     {
-        if let Some(number) = settings.first_bad() {
-            return Err(LinkFault::Setting { number });
-        }
+        let settings = Checked::try_from(settings)?;
         let sender = Sender {
             numbered: 0,
             cells: memory.cells,
@@ -68,7 +66,7 @@ impl<O: Direction<Other = I>, I: Direction<Other = O>> End<O, I> {
             tries: 0,
         };
         Ok(End {
-            settings: Checked { values: settings },
+            settings,
             sender,
             clock,
             receiver,

@@ -12,7 +12,7 @@ pub enum Stage {
 }
 
 // An outgoing message, beside its text.
-#[derive(Clone, Copy)]
+#[derive(Clone, Copy, PartialEq, Eq, Debug)]
 pub struct Cell {
     pub number: u64,
     pub label: Label,
@@ -28,7 +28,7 @@ pub struct Clock {
 }
 
 // The open part of a message, beside its text: its first label, what its newest block said of its place, and how many blocks it has.
-#[derive(Clone, Copy)]
+#[derive(Clone, Copy, PartialEq, Eq, Debug)]
 pub struct PartHead {
     pub label: Label,
     pub mark: Mark,

@@ -40,12 +40,8 @@ out_same room m (c ∷ cs) = go c.«record».stage (out_same room m cs)
 named_current : {g : List Message} {c : ℕ → Status} {ph : Phase} {p : Option ℕ} {s i : ℕ} → Current (sender g c ph p s) i → (p ≡ some i) × (is_out ph ≡ true)
 named_current current = (refl, refl)
 
-abbrev filled : Option ℕ → ℕ
-filled none = 0
-filled (some i) = 1
-
 pub none_some : (i : ℕ) → none ≡ some i → ⊥
-none_some i e = let z : ◌≡◌ {A = ℕ} 0 1 = ap filled e in absurd (omega (arith, z))
+none_some i e = cc
 
 -- the block acknowledged, if the test says that one is
 abbrev pub place_if : Bool → List (Stored Cell) → std.Option (ℕ × ℕ)

@@ -109,10 +109,7 @@ between_add lo hi (c ∷ cs) b h e u =
 
 -- a longer list bears the same numbers
 pub nth_add : (g more : List Message) (k : ℕ) (m : Message) → nth g k ≡ some m → nth (g ++ more) k ≡ some m
-nth_add [] more k m e = let z : ◌≡◌ {A = Option Message} none (some m) = e in absurd (clash z)
-  where
-    clash : none ≡ some m → ⊥
-    clash z = let y : ◌≡◌ {A = ℕ} 0 1 = ap (λ (o : Option Message). elim o [ none ↦ 0 | some x ↦ 1 ]) z in absurd (omega (arith, y))
+nth_add [] more k m e = cc
 nth_add (x ∷ g) more zero m e = e
 nth_add (x ∷ g) more (suc k) m e = nth_add g more k m e
 

@@ -1,7 +1,9 @@
 -- Cutting a text into blocks, and joining them again. Assumes nothing.
-use Rattle.std.proofs.Common.{◌≡◌, ℕ, zero, suc, ◌+◌, ◌-◌, ◌*◌, ◌/◌, ◌≤◌, Bool, true, false, cond, eqb, List, ◌++◌, length, take, drop, sym, refl, ap, ◌∙◌, subst, suc-mul, zero-add, zero-mul, arith, take-append-drop, drop-drop, eqb-true}
+use Rattle.std.proofs.Common.{◌<◌, lit<, ◌≡◌, ℕ, zero, suc, ◌+◌, ◌-◌, ◌*◌, ◌/◌, ◌≤◌, Bool, true, false, cond, eqb, List, ◌++◌, length, take, drop, sym, refl, ap, ◌∙◌, subst, suc-mul, zero-add, zero-mul, arith, take-append-drop, drop-drop, eqb-true}
 use borrow.Author.Tests.{eqb-false}
 use Rattle.std.proofs.lemmas.List.{drop_all}
+use Rattle.std.proofs.lemmas.Nat.{div_below, le-div}
+use Rattle.std.proofs.Math.Nat.{lt-div-mul-add}
 use Rattle.ends.specs.Sending.{block_count, block_text}
 use Rattle.law.specs.Links.{Side, air, ground}
 use Rattle.runs.specs.History.{room}
@@ -24,39 +26,24 @@ pub record Counted (r : ℕ) : Type 0 where
   pub all : (n : ℕ) → n ≤ block_count r n * r
   pub most : (n : ℕ) → n ≤ 16 * r → block_count r n ≤ 16
 
-down_counted : Counted 210
-down_counted = record { some = λ n. one n (eqb n 0) refl; all = λ n. all n (eqb n 0) refl; most = λ n h. most n (eqb n 0) refl h }
+counted_of : (r : ℕ) → 0 < r → Counted r
+counted_of r pos = record { some = λ n. one n (eqb n 0) refl; all = λ n. all n (eqb n 0) refl; most = λ n h. most n (eqb n 0) refl h }
   where
-    one : (n : ℕ) (b : Bool) → eqb n 0 ≡ b → 1 ≤ cond b 1 ((n + 210 - 1) / 210)
+    one : (n : ℕ) (b : Bool) → eqb n 0 ≡ b → 1 ≤ cond b 1 ((n + r - 1) / r)
     one n true e = omega arith
-    one n false e = let d = eqb-false n 0 e in omega arith
+    one n false e = let d = eqb-false n 0 e in le-div 1 (n + r - 1) r pos (omega (arith, d))
 
-    all : (n : ℕ) (b : Bool) → eqb n 0 ≡ b → n ≤ cond b 1 ((n + 210 - 1) / 210) * 210
-    all n true e = let d = eqb-true n 0 e in omega arith
-    all n false e = omega arith
+    all : (n : ℕ) (b : Bool) → eqb n 0 ≡ b → n ≤ cond b 1 ((n + r - 1) / r) * r
+    all n true e = let d = eqb-true n 0 e in omega (arith, d)
+    all n false e = let h : n + r - 1 < (n + r - 1) / r * r + r = lt-div-mul-add pos in omega (arith, h)
 
-    most : (n : ℕ) (b : Bool) → eqb n 0 ≡ b → n ≤ 3360 → cond b 1 ((n + 210 - 1) / 210) ≤ 16
+    most : (n : ℕ) (b : Bool) → eqb n 0 ≡ b → n ≤ 16 * r → cond b 1 ((n + r - 1) / r) ≤ 16
     most n true e h = omega arith
-    most n false e h = omega arith
-
-up_counted : Counted 220
-up_counted = record { some = λ n. one n (eqb n 0) refl; all = λ n. all n (eqb n 0) refl; most = λ n h. most n (eqb n 0) refl h }
-  where
-    one : (n : ℕ) (b : Bool) → eqb n 0 ≡ b → 1 ≤ cond b 1 ((n + 220 - 1) / 220)
-    one n true e = omega arith
-    one n false e = let d = eqb-false n 0 e in omega arith
-
-    all : (n : ℕ) (b : Bool) → eqb n 0 ≡ b → n ≤ cond b 1 ((n + 220 - 1) / 220) * 220
-    all n true e = let d = eqb-true n 0 e in omega arith
-    all n false e = omega arith
-
-    most : (n : ℕ) (b : Bool) → eqb n 0 ≡ b → n ≤ 3520 → cond b 1 ((n + 220 - 1) / 220) ≤ 16
-    most n true e h = omega arith
-    most n false e h = omega arith
+    most n false e h = let l = div_below (n + r - 1) r 17 pos (omega arith) in omega (arith, l)
 
 pub counted_at : (x : Side) → Counted (room x)
-counted_at air = down_counted
-counted_at ground = up_counted
+counted_at air = counted_of 210 (lit< tt)
+counted_at ground = counted_of 220 (lit< tt)
 
 module _ (r : ℕ) (c : Counted r) where
   pub cuts_whole : (text : List ℕ) → joined_up (cuts r text) ≡ text

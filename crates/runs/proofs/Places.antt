@@ -22,27 +22,21 @@ pub record Found (n k : ℕ) (cs : List (Stored Cell)) : Type 0 where
 found_later : {n k : ℕ} {c : Stored Cell} {cs : List (Stored Cell)} → Found n k cs → Found n (suc k) (c ∷ cs)
 found_later F = record { label = F.label; text = F.text; acknowledged = F.acknowledged; gone = F.gone; stands = stands_later F.stands }
 
-abbrev place : std.Option ℕ → ℕ
-place None = 0
-place (Some k) = suc k
-
 -- it was found further on
 found_past : {n : ℕ} {cs : List (Stored Cell)} (c : Stored Cell) (p : std.Option ℕ) → ((j : ℕ) → p ≡ Some j → Found n j cs) → (j : ℕ) → later p ≡ Some j → Found n j (c ∷ cs)
-found_past c None ih j q = let z : ◌≡◌ {A = ℕ} 0 (suc j) = ap place q in absurd (omega (arith, z))
+found_past c None ih j q = cc
 found_past {n = n} {cs = cs} c (Some i) ih j q =
-    let z : ◌≡◌ {A = ℕ} (suc (suc i)) (suc j) = ap place q in
-    let y : suc i ≡ j = omega (arith, z) in
+    let y : suc i ≡ j = cc in
     subst (λ (x : ℕ). Found n x (c ∷ cs)) y (found_later (ih i refl))
 
 pub found : (n : ℕ) (cs : List (Stored Cell)) (k : ℕ) → place_of_number n cs ≡ Some k → Found n k cs
-found n [] k e = let z : ◌≡◌ {A = ℕ} 0 (suc k) = ap place e in absurd (omega (arith, z))
+found n [] k e = cc
 found n (c ∷ cs) k e = go (eqb c.«record».number n) c.«record».stage refl (place_of_number n cs) (found n cs) k e
   where
     go : (b : Bool) (s : Stage) → eqb c.«record».number n ≡ b → (p : std.Option ℕ) → ((j : ℕ) → p ≡ Some j → Found n j cs) → (j : ℕ) →
         cond (b && sending.unsettled s) (Some 0) (later p) ≡ Some j → Found n j (cell_of c.«record».number c.«record».label s c.text ∷ cs)
     go true (Unsettled a g) d p ih j q =
-        let z : ◌≡◌ {A = ℕ} 1 (suc j) = ap place q in
-        let y : ◌≡◌ {A = ℕ} 0 j = omega (arith, z) in
+        let y : ◌≡◌ {A = ℕ} 0 j = cc in
         subst (λ (i : ℕ). Found n i (cell_of c.«record».number c.«record».label (Unsettled a g) c.text ∷ cs)) y
         (subst (λ (i : ℕ). Found n 0 (cell_of i c.«record».label (Unsettled a g) c.text ∷ cs)) (sym (eqb-true c.«record».number n d))
         (record { label = c.«record».label; text = c.text; acknowledged = a; gone = g; stands = stands_here }))

@@ -62,16 +62,10 @@ new_sender_is r room o n cs m s p = record {
 }
 
 -- what an outcome says is not unsettled
-abbrev rank : Status → ℕ
-rank unsettled = 0
-rank delivered = 1
-rank not_delivered = 1
-rank in_doubt = 1
-
 pub settled_not : (x : Outcome) → status_of x ≡ unsettled → ⊥
-settled_not Delivered e = let z : ◌≡◌ {A = ℕ} 1 0 = ap rank e in absurd (omega (arith, z))
-settled_not NotDelivered e = let z : ◌≡◌ {A = ℕ} 1 0 = ap rank e in absurd (omega (arith, z))
-settled_not InDoubt e = let z : ◌≡◌ {A = ℕ} 1 0 = ap rank e in absurd (omega (arith, z))
+settled_not Delivered e = cc
+settled_not NotDelivered e = cc
+settled_not InDoubt e = cc
 
 widen : (lo lo' hi : ℕ) (cs : List (Stored Cell)) → lo ≤ lo' → Between lo' hi cs → Between lo hi cs
 widen lo lo' hi [] h u = tt

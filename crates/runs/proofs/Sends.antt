@@ -27,13 +27,6 @@ use Rattle.runs.proofs.Firsts.{cell_of, First, All-settled}
 abbrev pub fresh_box : RingRule → Outbox → ℕ → ℕ → Outbox
 fresh_box r o k a = record { numbered = o.numbered; cells = stage_at k (Unsettled a true) o.cells; put = Some (fresh_identifier r o); spent = spent_by o; passing = false }
 
-abbrev filled : std.Option (Stored Cell) → ℕ
-filled None = 0
-filled (Some c) = 1
-
-none_one : (c : Stored Cell) → ◌≡◌ {A = std.Option (Stored Cell)} None (Some c) → ⊥
-none_one c e = let z : ◌≡◌ {A = ℕ} 0 1 = ap filled e in absurd (omega (arith, z))
-
 -- the cell at a place is good, and holds the message that bears its number
 abbrev cell_or_else : std.Option (Stored Cell) → Stored Cell → Stored Cell
 cell_or_else None c = c
@@ -41,7 +34,7 @@ cell_or_else (Some b) c = b
 
 pub holds_at : (room : ℕ) (g : List Message) (cs : List (Stored Cell)) (k : ℕ) (c : Stored Cell) → Holds room g cs → slice_get cs k ≡ Some c →
     GoodCell room c × (numbered g c.«record».number ≡ some (message c.«record».label.0 (cuts room c.text)))
-holds_at room g [] k c h e = absurd (none_one c e)
+holds_at room g [] k c h e = cc
 holds_at room g (b ∷ cs) zero c h e =
     subst (λ (x : Stored Cell). GoodCell room x × (numbered g x.«record».number ≡ some (message x.«record».label.0 (cuts room x.text))))
     (ap (λ (x : std.Option (Stored Cell)). cell_or_else x c) e) (h.0, h.1)

@@ -1,4 +1,4 @@
-use Rattle.std.proofs.Common.{rules, ap, sym, ◌∙◌}
+use Rattle.std.proofs.Common.{ap, sym, ◌∙◌}
 use Rattle.ends.specs.Ends.{model}
 use Rattle.ends.specs.Model.{Outbox}
 use Rattle.ends.specs.Sending.{with_outbox}
