@@ -1,20 +1,18 @@
 -- Which settings are within their limits.
 -- Assumes nothing.
-use Rattle.std.specs.Prelude.{◌≡◌, ℕ, ◌<◌, Bool, true, false, ◌&&◌, List, drop, nat_le}
-use Rattle.std.specs.List.{list_all, zip, enumerate_from}
+use Rattle.std.specs.Prelude.{◌≡◌, ℕ, ◌<◌, Bool, true, false, ◌&&◌, List, nat_le}
+use Rattle.std.specs.List.{list_all}
 use Rattle.directions.specs.TextRules.{is_letter, is_letter_or_digit}
 use Rattle.blocks.specs.Legal.{at, address_allows}
 use Rattle.calls.specs.declared.types.Settings.{Settings}
 use Rattle.calls.specs.declared.types.Setting.{Setting}
 use Rattle.calls.specs.declared.types.Setting.TheVariants.{Registration, Originator, Flight, Waits, Limit, Contact}
 
--- whether each character but the first may stand at its index of an address after the one before it
-abbrev pub follow_on : List ℕ → Bool
-follow_on a = list_all (λ p. address_allows p.0.0 p.1 p.0.1) (zip (drop 1 (enumerate_from 0 a)) a)
-
--- seven characters of an address, after the Mode
+-- seven characters of an address
 abbrev pub address_good : List ℕ → Bool
-address_good a = address_allows 0 50 (at a 0) && follow_on a
+address_good a =
+    address_allows 0 50 (at a 0) && (address_allows 1 (at a 0) (at a 1) && (address_allows 2 (at a 1) (at a 2) && (address_allows 3 (at a 2) (at a 3) &&
+    (address_allows 4 (at a 3) (at a 4) && (address_allows 5 (at a 4) (at a 5) && address_allows 6 (at a 5) (at a 6))))))
 
 -- letters or digits
 abbrev pub flight_good : List ℕ → Bool

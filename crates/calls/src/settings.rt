@@ -1,9 +1,9 @@
 // Which settings are within their limits.
 ghost use Rattle.std.specs.Prelude.{◌≡◌, MatchOption, find, not};
-ghost use Rattle.calls.specs.Setting.{follow_on, address_good, flight_good, setting_number, setting_good, Good, FirstBad};
+ghost use Rattle.calls.specs.Setting.{address_good, flight_good, setting_number, setting_good, Good, FirstBad};
 
 use crate::types::{Setting, Settings};
-use blocks::address_allows;
+use blocks::address_fault;
 use directions::{is_letter, is_letter_or_digit};
 
 // The settings in the order of their numbers.
@@ -16,21 +16,11 @@ const SETTINGS: [Setting; 6] = [
     Setting::Contact,
 ];
 
-// Whether each character but the first may stand at its index of an address after the one before it.
-fn follow_on(characters: &[u8; 7]) -> bool
-    ensures { result ≡ follow_on characters.now }
-{
-    let places = characters.iter().enumerate().skip(1);
-    places
-        .zip(characters)
-        .all(|((place, &c), &before)| address_allows(place, before, c))
-}
-
 // Whether seven characters make an address.
 fn is_address(characters: &[u8; 7]) -> bool
     ensures { result ≡ address_good characters.now }
 {
-    address_allows(0, b'2', characters[0]) && follow_on(characters)
+    address_fault(characters).is_none()
 }
 
 // Whether six characters are letters or digits.
