@@ -56,6 +56,7 @@ impl AnswerLine {
         ensures sized { length octets.now ≡ N }
     {
         self.add(b",");
+        // A loop: of an array's `map` a proof knows no more than its calls at each place.
         for octet in octets {
             self.add(&[character_of(*octet)]);
         }
