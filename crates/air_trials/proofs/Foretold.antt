@@ -34,6 +34,4 @@ module _ (v w : FadeSight LineSight) (s : List ℕ) (room : ℕ) (fated : v.fate
       let front : b' ≡ spoiled s ++ drop n b = sym (take-append-drop n b') ∙ ap (λ (f : List ℕ). f ++ drop n b') string ∙ ap (λ (e : List ℕ). spoiled s ++ e) t.behind in
       (ap Ok count, front ∙ ap (λ (k : ℕ). spoiled s ++ drop k b) count)
   comes_out x b b' (Err f) t h =
-      let none : spoiled s ∷ [] ≡ [] = sym waits ∙ (t.none h).1.takes_below.nothing in
-      let z : ◌≡◌ {A = ℕ} 0 1 = cc in
-      absurd (omega arith)
+      let none : spoiled s ∷ [] ≡ [] = sym waits ∙ (t.none h).1.takes_below.nothing in cc

@@ -1,7 +1,10 @@
 -- The answer to an input line.
-use Rattle.std.proofs.Common.{◌≡◌, ℕ, ◌+◌, ◌<◌, Bool, true, false, cond, ◌&&◌, ◌||◌, ltb, leb, List, map, length, Some, None, Ok, Err, Option, Result, refl, ◌∙◌, subst, arith}
+use Rattle.std.proofs.Common.{◌≡◌, ℕ, ◌+◌, ◌<◌, true, ◌&&◌, ◌||◌, ltb, leb, List, map, length, Some, None, Ok, Err, Option, Result, sym, refl, subst, arith, Bor}
+use Rattle.std.specs.Option.{option_map}
 use lib.ListN.{length-map}
-use Rattle.std.proofs.lemmas.Bool.{and_parts, leb-true, leb-false, le-leb}
+use Rattle.std.proofs.lemmas.Option.{cond_some}
+use Rattle.std.proofs.lemmas.Bool.Decides.{nat_tests}
+use Rattle.std.proofs.lemmas.Bool.{and_parts, leb-true, le-leb}
 use Rattle.octets.specs.Parity.{character}
 use Rattle.blocks.specs.declared.block.Block.{Block}
 use Rattle.blocks.specs.declared.block.Block.TheVariants.{Response, Message}
@@ -9,10 +12,8 @@ use Rattle.blocks.specs.declared.fault.BlockFault.{BlockFault}
 use Rattle.blocks.specs.Reading.{Reads}
 use Rattle.recordings.specs.declared.heading.Heading.{Heading}
 use Rattle.recordings.specs.declared.heading.Heading.TheVariants.{Down, Up}
-use Rattle.answers.specs.declared.answer.AnswerLine.{AnswerLine}
 use Rattle.recordings.specs.Recorded.{LineOf, Unread}
 use Rattle.answers.specs.Printed.{unread, printed, outcome_of, fits_line}
-use Rattle.answers.specs.Shown.{shown, SetOrKept}
 use Rattle.recordings.specs.Split.{told}
 use Rattle.answers.specs.Laws.{way_of}
 use Rattle.answers.specs.Answered.{Answered}
@@ -35,18 +36,12 @@ read_fits h s (Ok (Message a k l i e t)) reads =
 
 -- the answer of reading is what the line turns out to be
 pub answered :
-    (line string : List ℕ) (count : ℕ) (h : Heading) (r : Result Block BlockFault) (before after : AnswerLine) (t : Bool) →
-    LineOf h string line → Reads (way_of h) string r → t ≡ fits_line r → SetOrKept before after (printed count (outcome_of h r)) t →
-    Answered line count (shown after)
-answered line string count h r before after t recorded reads test text =
-    let set : shown after ≡ printed count (outcome_of h r) =
-    subst (λ (b : Bool). SetOrKept before after (printed count (outcome_of h r)) b) (test ∙ read_fits h string r reads) text in
-    go r reads set where
-      go : (q : Result Block BlockFault) → Reads (way_of h) string q → shown after ≡ printed count (outcome_of h q) → Answered line count (shown after)
-      go (Ok b) read e =
-          record { outcome = outcome_of h (Ok b); is = record { string = string; recorded = recorded; sound = read.sound; made = read.made }; text_is = e }
-      go (Err f) read e =
-          record { outcome = outcome_of h (Err f); is = record { string = string; recorded = recorded; refusal = read }; text_is = e }
+    (line string : List ℕ) (count : ℕ) (h : Heading) (r : Result Block BlockFault) (text : List ℕ) →
+    LineOf h string line → Reads (way_of h) string r → text ≡ printed count (outcome_of h r) → Answered line count text
+answered line string count h (Ok b) text recorded read e =
+    record { outcome = outcome_of h (Ok b); is = record { string = string; recorded = recorded; sound = read.sound; made = read.made }; text_is = e }
+answered line string count h (Err f) text recorded read e =
+    record { outcome = outcome_of h (Err f); is = record { string = string; recorded = recorded; refusal = read }; text_is = e }
 
 -- a line that is no string's
 pub answered_unread : (line : List ℕ) (count : ℕ) (text : List ℕ) → Unread line → text ≡ printed count unread → Answered line count text
@@ -54,24 +49,14 @@ answered_unread line count text none e = record { outcome = unread; is = none; t
 
 -- what is kept of a line is the line, or it is too long
 told_some : (p l : List ℕ) → Some l ≡ told p → l ≡ p
-told_some p l e = go (leb (length p) 1024) e where
-  go : (t : Bool) → Some l ≡ cond t (Some p) None → l ≡ p
-  go true q = cc
-  go false q = let z : ◌≡◌ {A = ℕ} 0 1 = cc in absurd (omega arith)
+told_some p l e = sym (cond_some (leb (length p) 1024) p l (sym e)).1
 
 told_none : (p : List ℕ) → ◌≡◌ {A = Option (List ℕ)} None (told p) → 1024 < length p
-told_none p e = go (leb (length p) 1024) refl e where
-  go : (t : Bool) → leb (length p) 1024 ≡ t → ◌≡◌ {A = Option (List ℕ)} None (cond t (Some p) None) → 1024 < length p
-  go true q e = let z : ◌≡◌ {A = ℕ} 0 1 = cc in absurd (omega arith)
-  go false q e = leb-false (length p) 1024 q
+told_none p e = grind (arith, nat_tests)
 
--- a line that is kept
-pub answered_kept : (l p : List ℕ) (count : ℕ) (text : List ℕ) → Some l ≡ told p → Answered l count text → Answered p count text
-answered_kept l p count text e a = subst (λ (x : List ℕ). Answered x count text) (told_some p l e) a
-
--- a line that is too long
-pub answered_over : (p : List ℕ) (count : ℕ) (text : List ℕ) → ◌≡◌ {A = Option (List ℕ)} None (told p) → text ≡ printed count unread → Answered p count text
-answered_over p count text e printed-is =
-    answered_unread p count text
-    (λ h string is. let long = told_none p e in omega (arith, is.short, is.long))
-    printed-is
+-- what is kept of a line is no string's, or the line is too long for any
+pub unread_kept :
+    (line : Option (Bor (List ℕ))) (p : List ℕ) → option_map (λ (x : Bor (List ℕ)). x.now) line ≡ told p →
+    ((l : Bor (List ℕ)) → line ≡ Some l → Unread l.now) → Unread p
+unread_kept (Some l) p e none h string is = subst Unread (told_some p l.now e) (none l refl) h string is
+unread_kept None p e none h string is = let long = told_none p e in omega (arith, is.short, is.long)

@@ -1,10 +1,12 @@
 -- No two different results print alike.
-use Rattle.std.proofs.Common.{◌≡◌, ℕ, ◌+◌, ◌%◌, ◌^◌, ◌<◌, ◌≤◌, Bool, true, false, cond, eqb, ltb, leb, List, [], ◌∷◌, ◌++◌, length, get_or, drop, Some, None, codes, decimal, Option, sym, refl, ap, ◌∙◌, subst, ⊎_elim, arith, length-append}
+use Rattle.std.proofs.Common.{◌≡◌, ℕ, ◌+◌, ◌%◌, ◌^◌, ◌<◌, ◌≤◌, Bool, true, false, cond, eqb, ltb, leb, List, [], ◌∷◌, ◌++◌, length, get_or, take, drop, Some, None, codes, decimal, Option, sym, refl, ap, ◌∙◌, subst, arith, length-append}
 use Rattle.std.specs.List.{flat_map, AllByRecursion}
 use Rattle.std.proofs.lemmas.Fmt.{decimal_by_steps, decimal_injective, decimal_nonempty}
 use Rattle.std.proofs.ByRecursion.{All-push}
 use Rattle.std.proofs.lemmas.List.{same_from_push}
-use Rattle.std.proofs.lemmas.Bool.{cases_eq, ne_eqb, and_parts, leb-true, cond_both}
+use Rattle.std.proofs.lemmas.Bool.Decides.{nat_tests}
+use Rattle.std.proofs.Math.Seq.{take-append_seam, drop-append_seam}
+use Rattle.std.proofs.lemmas.Bool.{and_parts, leb-true}
 use Rattle.directions.specs.Rings.{RingRule}
 use Rattle.blocks.specs.Fields.{Head, Fields, response, message, head_of}
 use Rattle.blocks.specs.Legal.{Way, Sound, acknowledges}
@@ -41,16 +43,10 @@ comma_split (x ∷ xs) (y ∷ ys) X Y (a, p) (b, q) e =
 
 -- parts of one length are told apart from what follows
 pub length_split : (xs ys X Y : List ℕ) → length xs ≡ length ys → xs ++ X ≡ ys ++ Y → (xs ≡ ys) × (X ≡ Y)
-length_split [] [] X Y l e = (refl, e)
-length_split [] (y ∷ ys) X Y l e = absurd (omega arith)
-length_split (x ∷ xs) [] X Y l e = absurd (omega arith)
-length_split (x ∷ xs) (y ∷ ys) X Y l e =
-    let k : x ≡ y = cc in
-    let rest : xs ++ X ≡ ys ++ Y = cc in
-    let long : length xs ≡ length ys = omega arith in
-    let (f, g) = length_split xs ys X Y long rest in
-    let whole : x ∷ xs ≡ y ∷ ys = cc in
-    (whole, g)
+length_split xs ys X Y l e = (
+  sym (take-append_seam xs X) ∙ ap (take (length xs)) e ∙ ap (λ (n : ℕ). take n (ys ++ Y)) l ∙ take-append_seam ys Y,
+  sym (drop-append_seam xs X) ∙ ap (drop (length xs)) e ∙ ap (λ (n : ℕ). drop n (ys ++ Y)) l ∙ drop-append_seam ys Y,
+)
 
 -- the character that an escaped text begins with, and what follows it
 unescaped : List ℕ → ℕ
@@ -65,30 +61,10 @@ EscapedBack X c = (unescaped (escaped c ++ X) ≡ c) × (behind (escaped c ++ X)
 
 escaped_back : (c : ℕ) (X : List ℕ) → EscapedBack X c
 unfolding unescaped behind
-escaped_back c X =
-    let feed : EscapedBack X 10 = (refl, refl) in
-    let return : EscapedBack X 13 = (refl, refl) in
-    let slash : EscapedBack X 92 = (refl, refl) in
-    ⊎_elim (λ e. subst (EscapedBack X) (sym e) feed)
-    (λ no10. ⊎_elim (λ e. subst (EscapedBack X) (sym e) return)
-    (λ no13. ⊎_elim (λ e. subst (EscapedBack X) (sym e) slash)
-    (λ no92.
-    let a = ne_eqb c 10 no10 in
-    let b = ne_eqb c 13 no13 in
-    let d = ne_eqb c 92 no92 in
-    let plain : escaped c ≡ c ∷ [] = rw (a, b, d) in
-    let back : (unescaped (c ∷ X) ≡ c) × (behind (c ∷ X) ≡ X) = (rw d, rw d) in
-    subst (λ (l : List ℕ). (unescaped (l ++ X) ≡ c) × (behind (l ++ X) ≡ X)) (sym plain) back)
-    (cases_eq c 92)) (cases_eq c 13)) (cases_eq c 10)
+escaped_back c X = (grind (arith, nat_tests), grind (arith, nat_tests))
 
 some_escaped : (c : ℕ) (X : List ℕ) → escaped c ++ X ≡ [] → ⊥
-some_escaped c X e =
-    let long : length (escaped c ++ X) ≡ 0 = ap length e in
-    let parts = length-append (escaped c) X in
-    cond_both (eqb c 10) (codes "\\n") _ (λ (x : List ℕ). length x ≡ length (escaped c) → ⊥) (λ _ k. omega arith)
-    (λ _. cond_both (eqb c 13) (codes "\\r") _ (λ (x : List ℕ). length x ≡ length (escaped c) → ⊥) (λ _ k. omega arith)
-    (λ _. cond_both (eqb c 92) (codes "\\\\") (c ∷ []) (λ (x : List ℕ). length x ≡ length (escaped c) → ⊥) (λ _ k. omega arith) (λ _ k. omega arith)))
-    refl
+some_escaped c X e = grind (arith, nat_tests, ap length e, length-append (escaped c) X)
 
 -- texts that are escaped alike are equal
 pub text_apart : (xs ys : List ℕ) → flat_map escaped xs ≡ flat_map escaped ys → xs ≡ ys

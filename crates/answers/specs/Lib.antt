@@ -1,4 +1,4 @@
 pub mod Printed
-pub mod Shown
+pub mod Room
 pub mod Laws
 pub mod Answered

@@ -1,15 +1,22 @@
 // A line of output, in memory of its own.
-ghost use Rattle.std.specs.Prelude.{◌≡◌, ◌≤◌, length};
-
 mod adding;
 mod answering;
 mod printing;
 
+use arrayvec::ArrayVec;
+pub use printing::TextTooLong;
+use std::marker::Model;
+
 // The octets of a line, the longest of which has room.
 #[derive(Drop)]
 pub struct AnswerLine {
-    octets: [u8; 512],
-    used: usize,
-    ghost sized: { length octets ≡ 512 },
-    ghost within: { used ≤ 512 },
+    octets: ArrayVec<u8, 512>,
+}
+
+impl Model for AnswerLine {
+    ghost use Rattle.std.specs.Prelude.{ℕ, List};
+
+    ghost Value = { List ℕ };
+
+    ghost view = { λ l. l.octets.items };
 }

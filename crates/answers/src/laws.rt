@@ -4,10 +4,7 @@ ghost use Rattle.answers.specs.Answered.{AnswersApart};
 ghost use Rattle.answers.specs.Laws.{PrintedApart};
 
 // No two different results print alike, so an answer alone tells what its input line is.
-pub fn answers_stand() -> u8
-    ensures value { result ≡ 0 }
+pub fn answers_stand()
     ensures apart { PrintedApart }
     ensures told { AnswersApart }
-{
-    0
-}
+{}

@@ -4,5 +4,5 @@
 mod answer;
 mod laws;
 
-pub use answer::AnswerLine;
+pub use answer::{AnswerLine, TextTooLong};
 pub use laws::answers_stand;

@@ -1,9 +1,10 @@
 -- What the test of STX, text and suffix tells of the places from 13 on. Assumes nothing.
 use Rattle.std.proofs.Common.{◌≡◌, ℕ, ◌+◌, ◌-◌, ◌<◌, ◌≤◌, true, false, ◌||◌, eqb, List, length, take, drop, Some, None, Option, refl, ◌∙◌, subst, inl, inr, arith, eq-eqb}
 use Rattle.std.proofs.lemmas.Bool.{cases_lt}
+use Rattle.std.specs.Option.{unwrap_or}
 use Rattle.blocks.specs.Legal.{Way, at, text_allows}
 use Rattle.blocks.specs.Places.{ch, Kept, place_rule, BrokenAt}
-use Rattle.blocks.specs.Scans.{index_or, FirstFault, OfOctets}
+use Rattle.blocks.specs.Scans.{FirstFault, OfOctets}
 use Rattle.blocks.proofs.Steps.{range_more, text_rule, suffix_rule, start_rule}
 use Rattle.blocks.proofs.Scanning.{part_kept, part_broken}
 
@@ -18,7 +19,7 @@ module _ (w : Way) (s : List ℕ) (long : 18 < length s) (start : ch s 13 ≡ 2)
   Text first = FirstFault (OfOctets (text_allows w.text)) (at s 13) xs first
 
   -- STX and the text keep their rules up to the first fault
-  opened : {first : Option ℕ} → Text first → (p : ℕ) → 13 ≤ p → p < length s - 4 → p < 14 + index_or first m → place_rule w (length s) p (ch s (p - 1)) (ch s p) ≡ true
+  opened : {first : Option ℕ} → Text first → (p : ℕ) → 13 ≤ p → p < length s - 4 → p < 14 + unwrap_or first m → place_rule w (length s) p (ch s (p - 1)) (ch s p) ≡ true
   opened f p l v u =
       elim (cases_lt 13 p) [
         | inl h ↦ text_rule w (length s) p _ _ h v (λ e. omega arith) ∙ part_kept (text_allows w.text) s xs 13 m (omega arith) refl f p h u

@@ -2,9 +2,10 @@
 use Rattle.std.proofs.Common.{◌≡◌, ℕ, zero, suc, ◌+◌, ◌-◌, ◌<◌, ◌≤◌, Bool, true, false, List, ◌∷◌, length, take, drop, Some, None, Option, sym, ap, ◌∙◌, subst, add-zero, arith, length-drop}
 use Rattle.std.proofs.lemmas.List.{get_or-take, get_or-drop, length-take-le}
 use Rattle.octets.specs.Parity.{character}
+use Rattle.std.specs.Option.{unwrap_or}
 use Rattle.blocks.specs.Legal.{at}
 use Rattle.blocks.specs.Places.{ch}
-use Rattle.blocks.specs.Scans.{index_or, FirstFault, OfOctets}
+use Rattle.blocks.specs.Scans.{FirstFault, OfOctets}
 
 pub fault_by : {R S : ℕ → ℕ → ℕ → Bool → Type 0} {before : ℕ} {xs : List ℕ} {first : Option ℕ} → ((i b c : ℕ) (t : Bool) → R i b c t → S i b c t) →
     FirstFault R before xs first → FirstFault S before xs first
@@ -32,7 +33,7 @@ module _ (allows : ℕ → ℕ → ℕ → Bool) (s xs : List ℕ) (a m : ℕ) (
       (subst (λ (x : ℕ). allows i (character x) (ch s p) ≡ t) b (subst (λ (x : ℕ). allows i (character (at (at s a ∷ xs) i)) (character x) ≡ t) c (sym r)))
 
   -- up to the first fault the places keep the rule
-  pub part_kept : {first : Option ℕ} → FirstFault (OfOctets allows) (at s a) xs first → (p : ℕ) → suc a ≤ p → p < suc a + index_or first m →
+  pub part_kept : {first : Option ℕ} → FirstFault (OfOctets allows) (at s a) xs first → (p : ℕ) → suc a ≤ p → p < suc a + unwrap_or first m →
       allows (p - suc a) (ch s (p - 1)) (ch s p) ≡ true
   part_kept {first = None} f p l u = rule_at (p - suc a) p true (omega arith) (omega arith) (f.kept (p - suc a) (omega (arith, part_long)))
   part_kept {first = Some i} f p l u = let h = f.broken.0 in rule_at (p - suc a) p true (omega (arith, part_long)) (omega arith) (f.kept (p - suc a) (omega arith))

@@ -42,6 +42,7 @@ pub enum LinkFault {
     Spent,
 }
 
+// Both by hand: clauses name the refusal that `?` makes, and a derived one says nothing of it.
 impl From<BlockFault> for LinkFault {
     ghost from_gives = { λ f r. r ≡ Block f };
 

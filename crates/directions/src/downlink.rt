@@ -62,6 +62,7 @@ impl Direction for Downlink {
 
     fn opening(originator: u8, flight: &[u8; 6], number: u64, index: u8) -> ArrayVec<u8, 10> {
         let shown = (number.saturating_sub(1) % 99 + 1) as u8;
+        // Named one by one: an array's literal takes no slice, and a vector filled step by step is no plainer.
         let [a, b, c, d, e, f] = *flight;
         ArrayVec::from([
             originator,

@@ -20,18 +20,17 @@ pub(crate) fn new_end<O: Direction<Other = I>, I: Direction<Other = O>>(
     heap: Global,
 ) -> Result<End<O, I>, Fail> {
     let memory = Memory::reserve(heap)?;
-    match End::new(memory, GOOD) {
-        Ok(end) => Ok(end),
-        Err(_) => Err(Fail::new("good settings were refused")),
-    }
+    Ok(End::new(memory, GOOD)?)
 }
 
-// The number of a refusal, 0 if it is none.
-pub(crate) fn refusal<T: Drop>(answer: Result<T, LinkFault>) -> u8 {
-    match answer {
-        Ok(_) => 0,
-        Err(fault) => fault.number(),
-    }
+// The number of a refusal, if the answer is one.
+pub(crate) fn refusal<T: Drop>(answer: Result<T, LinkFault>) -> Option<u8> {
+    answer.err().map(|fault| fault.number())
+}
+
+// The number and the place of a refusal, if the answer is one.
+pub(crate) fn refusal_at<T: Drop>(answer: Result<T, LinkFault>) -> Option<(u8, Option<usize>)> {
+    answer.err().map(|fault| (fault.number(), fault.place()))
 }
 
 #[test]
@@ -95,13 +94,8 @@ fn settings_outside_their_limits(rt: HostRuntime) -> Result<(), Fail> {
     ];
     for (number, settings) in cases {
         let memory = Memory::reserve(rt.alloc())?;
-        match End::<Downlink, Uplink>::new(memory, settings) {
-            Ok(_) => return Err(Fail::new("bad settings were taken")),
-            Err(fault) => {
-                assert_eq!(rt; fault.number(), 13);
-                assert_eq!(rt; fault.place(), Some(number));
-            }
-        }
+        let answer = End::<Downlink, Uplink>::new(memory, settings);
+        assert_eq!(rt; refusal_at(answer), Some((13, Some(number))));
     }
     Ok(())
 }
@@ -128,7 +122,7 @@ fn settings_at_their_limits(rt: HostRuntime) -> Result<(), Fail> {
     ];
     for settings in cases {
         let memory = Memory::reserve(rt.alloc())?;
-        assert_eq!(rt; refusal(End::<Uplink, Downlink>::new(memory, settings)), 0);
+        let _ = End::<Uplink, Downlink>::new(memory, settings)?;
     }
     Ok(())
 }

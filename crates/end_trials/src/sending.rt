@@ -1,5 +1,5 @@
 // What ticks put on a path, and when.
-use crate::making::{new_end, refusal};
+use crate::making::{new_end, refusal, refusal_at};
 use calls::{Label, Ticked};
 use directions::{Downlink, Uplink};
 use ends::End;
@@ -34,51 +34,67 @@ pub(crate) fn line(heap: Global) -> Result<FrameLine, Fail> {
 }
 
 // One string waits, and it is this one.
-pub(crate) fn only(rt: &impl Abort, path: &mut FrameLine, string: &[u8]) -> Result<(), Fail> {
+fn only(rt: &impl Abort, path: &mut FrameLine, string: &[u8]) -> Result<(), Fail> {
     let mut buffer = [0; 256];
     assert_eq!(rt; path.waiting(), 1);
     let n = path.take(&mut buffer)?;
-    assert!(rt; &buffer[0..n] == string);
+    assert_eq!(rt; &buffer[..n], string);
     Ok(())
 }
 
-// A tick puts this string, as a block.
-pub(crate) fn puts(
-    rt: &impl Abort,
-    end: &mut End<Downlink, Uplink>,
-    path: &mut FrameLine,
-    time: u64,
-    draw: u64,
-    string: &[u8],
-) -> Result<(), Fail> {
-    assert!(rt; matches!(end.tick(time, draw, path), Ok(Ticked::Block)));
-    only(rt, path, string)
+// An aircraft's end, and the path that it sends on.
+#[derive(Drop)]
+pub(crate) struct Sending {
+    pub(crate) end: End<Downlink, Uplink>,
+    pub(crate) path: FrameLine,
 }
 
-// A tick puts nothing.
-fn rests(rt: &impl Abort, end: &mut End<Downlink, Uplink>, path: &mut FrameLine, time: u64) {
-    assert!(rt; matches!(end.tick(time, 0, path), Ok(Ticked::Nothing)));
-    assert_eq!(rt; path.waiting(), 0);
+impl Sending {
+    pub(crate) fn new(heap: Global) -> Result<Sending, Fail> {
+        Ok(Sending {
+            end: new_end(heap)?,
+            path: line(heap)?,
+        })
+    }
+
+    // A tick puts this string, as a block.
+    pub(crate) fn puts(
+        &mut self,
+        rt: &impl Abort,
+        time: u64,
+        draw: u64,
+        string: &[u8],
+    ) -> Result<(), Fail> {
+        assert_eq!(rt;
+            self.end.tick(time, draw, &mut self.path),
+            Ok(Ticked::Block)
+        );
+        only(rt, &mut self.path, string)
+    }
+
+    // A tick puts nothing.
+    fn rests(&mut self, rt: &impl Abort, time: u64) {
+        assert_eq!(rt; self.end.tick(time, 0, &mut self.path), Ok(Ticked::Nothing));
+        assert_eq!(rt; self.path.waiting(), 0);
+    }
 }
 
 #[test]
 fn a_block_goes_out_again_when_due(rt: HostRuntime) -> Result<(), Fail> {
-    let mut end = new_end(rt.alloc())?;
-    let mut path = line(rt.alloc())?;
-    rests(&rt, &mut end, &mut path, 0);
-    assert!(rt; matches!(end.submit(Label(*b"10"), b"HELLO"), Ok(1)));
+    let mut sending = Sending::new(rt.alloc())?;
+    sending.rests(&rt, 0);
+    assert_eq!(rt; sending.end.submit(Label(*b"10"), b"HELLO"), Ok(1));
     // due after low and 13 modulo 10
-    puts(&rt, &mut end, &mut path, 100, 13, &FIRST)?;
-    rests(&rt, &mut end, &mut path, 1_102);
+    sending.puts(&rt, 100, 13, &FIRST)?;
+    sending.rests(&rt, 1_102);
     // the second try is the last before contact
-    puts(&rt, &mut end, &mut path, 1_103, 0, &FIRST)?;
-    rests(&rt, &mut end, &mut path, 6_102);
-    puts(&rt, &mut end, &mut path, 6_103, 0, &FIRST)?;
-    assert_eq!(rt; refusal(end.tick(6_102, 0, &mut path)), 14);
-    assert_eq!(rt;
-        refusal(end.tick(4_611_686_018_427_387_905, 0, &mut path)),
-        14
-    );
+    sending.puts(&rt, 1_103, 0, &FIRST)?;
+    sending.rests(&rt, 6_102);
+    sending.puts(&rt, 6_103, 0, &FIRST)?;
+    let Sending { mut end, mut path } = sending;
+    assert_eq!(rt; refusal(end.tick(6_102, 0, &mut path)), Some(14));
+    let late = 4_611_686_018_427_387_905;
+    assert_eq!(rt; refusal(end.tick(late, 0, &mut path)), Some(14));
     assert_eq!(rt; path.waiting(), 0);
     Ok(())
 }
@@ -87,8 +103,8 @@ fn a_block_goes_out_again_when_due(rt: HostRuntime) -> Result<(), Fail> {
 fn an_empty_uplink(rt: HostRuntime) -> Result<(), Fail> {
     let mut end: End<Uplink, Downlink> = new_end(rt.alloc())?;
     let mut path = line(rt.alloc())?;
-    assert!(rt; matches!(end.submit(Label(*b"A9"), b""), Ok(1)));
-    assert!(rt; matches!(end.tick(0, 0, &mut path), Ok(Ticked::Block)));
+    assert_eq!(rt; end.submit(Label(*b"A9"), b""), Ok(1));
+    assert_eq!(rt; end.tick(0, 0, &mut path), Ok(Ticked::Block));
     only(&rt, &mut path, &EMPTY)
 }
 
@@ -97,18 +113,13 @@ fn the_longest_text(rt: HostRuntime) -> Result<(), Fail> {
     let mut end: End<Downlink, Uplink> = new_end(rt.alloc())?;
     let mut path = line(rt.alloc())?;
     let text = [b'x'; 3361];
-    assert!(rt; matches!(end.submit(Label(*b"10"), &text[0..3360]), Ok(1)));
-    match end.submit(Label(*b"10"), &text) {
-        Ok(_) => return Err(Fail::new("a text of 3361 characters was taken")),
-        Err(fault) => {
-            assert_eq!(rt; fault.number(), 15);
-            assert_eq!(rt; fault.place(), Some(3_362));
-        }
-    }
-    assert!(rt; matches!(end.tick(0, 0, &mut path), Ok(Ticked::Block)));
+    assert_eq!(rt; end.submit(Label(*b"10"), &text[..3360]), Ok(1));
+    let answer = end.submit(Label(*b"10"), &text);
+    assert_eq!(rt; refusal_at(answer), Some((15, Some(3_362))));
+    assert_eq!(rt; end.tick(0, 0, &mut path), Ok(Ticked::Block));
     let mut buffer = [0; 256];
     assert_eq!(rt; path.take(&mut buffer)?, 238);
     // the suffix of a block that others follow, and the check
-    assert!(rt; &buffer[234..238] == [0x97, 0x8E, 0x74, 0x7F].as_slice());
+    assert_eq!(rt; &buffer[234..238], [0x97, 0x8E, 0x74, 0x7F].as_slice());
     Ok(())
 }

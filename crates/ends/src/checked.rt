@@ -21,6 +21,7 @@ impl TryFrom<Settings> for Checked {
 
     // The settings, if all are within their limits; else the first that is not.
     fn try_from(values: Settings) -> Result<Checked, LinkFault> {
+        // A match and no map: only where no setting is bad does the ghost field hold.
         match values.first_bad() {
             Some(setting) => Err(LinkFault::Setting(setting)),
             None => Ok(Checked { values }),

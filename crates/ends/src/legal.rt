@@ -15,6 +15,7 @@ fn illegal_label(label: Label) -> Option<usize>
 }
 
 // The index of the first character that no text may have.
+// Beside the one of labels: what both share is the library's `position`, and a function over the test would be that again.
 fn illegal_text(text: &[u8]) -> Option<usize>
     ensures { MatchOption result (TextGood text.now (length text.now)) (λ i. (i < length text.now) × TextGood text.now i × (is_text (at text.now i) ≡ false)) }
 {

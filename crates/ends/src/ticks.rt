@@ -38,7 +38,8 @@ impl<O: Direction<Other = I>, I: Direction<Other = O>> End<O, I> {
     fn moment(&self, time: u64, draw: u64) -> Option<Moment>
         ensures { MatchOption result (on_time (model self.now) time ≡ false) (λ t. (on_time (model self.now) time ≡ true) × (t.time ≡ time) × (t.draw ≡ draw)) }
     {
-        if self.clock.time <= time && time <= LATEST {
+        // An if and no `then`: only in that branch does the ghost field hold.
+        if (self.clock.time..=LATEST).contains(&time) {
             Some(Moment { time, draw })
         } else {
             None

@@ -1,5 +1,6 @@
 // The law of a block link, over any two directions: truth of outcomes, order of messages, exact progress.
 // Definitions and lemmas alone: each function carries a theorem in its contract, and does nothing.
+// They stay functions of their own: what differs is the theorem, which no parameter can be.
 #![tactic(auto)]
 
 ghost use Rattle.law.specs.DeliveryWitness.{DeliveriesHappen};

@@ -1,5 +1,5 @@
 -- What a line does is a function of its state and the string. Assumes nothing.
-use Rattle.std.proofs.Common.{◌≡◌, ℕ, List, [], ◌∷◌, Some, None, Option, sym, refl, ap, ◌∙◌, arith}
+use Rattle.std.proofs.Common.{◌≡◌, ℕ, List, [], ◌∷◌, Some, None, Option, sym, refl, ap, ◌∙◌}
 use Rattle.paths.proofs.Outcomes.{Functional, determined, fade_determined}
 use Rattle.lines.specs.Layout.{Layout}
 use Rattle.lines.specs.Layouts.{framed, spelled}
@@ -18,17 +18,9 @@ one_put l v s w x p q = same_sight w x (p.room ∙ sym q.room) (p.waiting ∙ sy
 one_take : (v : LineSight) (o p : Option (List ℕ)) (w x : LineSight) → LineTakes v o w → LineTakes v p x → (o ≡ p) × (w ≡ x)
 one_take v (Some s) (Some t) w x p q =
     let both : s ∷ w.waiting ≡ t ∷ x.waiting = sym p.waiting ∙ q.waiting in
-    let first : s ≡ t = cc in
-    let rest : w.waiting ≡ x.waiting = cc in
-    (ap Some first, same_sight w x (p.room ∙ sym q.room) rest)
-one_take v (Some s) None w x p q =
-    let both : s ∷ w.waiting ≡ [] = sym p.waiting ∙ q.nothing in
-    let z : ◌≡◌ {A = ℕ} 0 1 = cc in
-    absurd (omega arith)
-one_take v None (Some t) w x p q =
-    let both : t ∷ x.waiting ≡ [] = sym q.waiting ∙ p.nothing in
-    let z : ◌≡◌ {A = ℕ} 0 1 = cc in
-    absurd (omega arith)
+    (cc, same_sight w x (p.room ∙ sym q.room) cc)
+one_take v (Some s) None w x p q = let both : s ∷ w.waiting ≡ [] = sym p.waiting ∙ q.nothing in cc
+one_take v None (Some t) w x p q = let both : t ∷ x.waiting ≡ [] = sym q.waiting ∙ p.nothing in cc
 one_take v None None w x p q = (refl, p.same ∙ sym q.same)
 
 functional : (l : Layout) → Functional (LinePuts l) LineTakes

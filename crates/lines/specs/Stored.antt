@@ -1,14 +1,18 @@
 -- What a store of strings looks like, and what is done to it. Assumes nothing.
 use Rattle.std.specs.Prelude.{◌≡◌, ℕ, ◌+◌, ◌-◌, Bool, cond, List, ◌++◌, length, take, drop, vec_items, nat_le}
 use Rattle.lines.specs.declared.store.Store.{Store}
-use Rattle.lines.specs.Layout.{Layout, Kept}
+use Rattle.lines.specs.Layout.{Layout, Kept, strings_of}
 use Rattle.lines.specs.Line.{LineSight, line_of}
 
 -- The memory of a store.
 abbrev pub memory_of : Store → List ℕ
 memory_of a = vec_items a.octets
 
--- The first string of a store, behind its head.
+-- The strings of a store, in a layout.
+abbrev pub waiting_in : Layout → Store → List (List ℕ)
+waiting_in l a = strings_of l a.count (memory_of a)
+
+-- The first of them.
 abbrev pub oldest_in : Layout → Store → List ℕ
 oldest_in l a = take (l.first (memory_of a)) (drop l.size (memory_of a))
 

@@ -15,8 +15,8 @@ use Rattle.paths.specs.Fading.{FadeSight, FadePuts, FadeTakes, Faded, spoiled}
 -- One number, one fault.
 same_fault : (f g : PathFault) → number f ≡ number g → f ≡ g
 same_fault BadLength BadLength e = refl
-same_fault BadLength NothingWaits e = absurd (omega arith)
-same_fault NothingWaits BadLength e = absurd (omega arith)
+same_fault BadLength NothingWaits e = cc
+same_fault NothingWaits BadLength e = cc
 same_fault NothingWaits NothingWaits e = refl
 
 -- Relations that are functions, of the state and the string and of the state.
@@ -42,9 +42,7 @@ module _ {V : Type 0} {puts : V → List ℕ → V → Type 0} {takes : V → Op
 
   never_both : (v : V) (b : List ℕ) (w x : V) (b₁ b₂ : List ℕ) (n : ℕ) (f : PathFault) → Handed takes v b w b₁ n → TakeRefused takes v b x b₂ f → ⊥
   never_both v b w x b₁ b₂ n f p q =
-      let one = F.take v _ _ w x p.taken (q.none p.room).1 in
-      let z : ◌≡◌ {A = ℕ} 0 1 = cc one.0 in
-      omega arith
+      let one = F.take v _ _ w x p.taken (q.none p.room).1 in cc one.0
 
   both_refused : (v : V) (b : List ℕ) (w x : V) (b₁ b₂ : List ℕ) (f g : PathFault) → TakeRefused takes v b w b₁ f → TakeRefused takes v b x b₂ g → (f ≡ g) × (w ≡ x) × (b₁ ≡ b₂)
   both_refused v b w x b₁ b₂ f g p q =

@@ -18,7 +18,7 @@ pub struct FadeBox<P> {
 }
 
 impl<P: AirPath> FadeBox<P> {
-    // Stands a fade box on a path, with fates by number; those past the 64th go unread.
+    // Stands a fade box on a path, with fates by number, as they come from outside; those past the 64th go unread.
     pub fn new(below: P, numbers: &[u8]) -> FadeBox<P>
         ensures below { result.below ≡ below }
         ensures fates { coming result.fates ≡ map fate_of (take 64 numbers.now) }

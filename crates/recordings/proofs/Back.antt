@@ -1,11 +1,12 @@
 -- The line of a string reads back as that string.
-use Rattle.std.proofs.Common.{◌≡◌, ℕ, zero, suc, ◌+◌, ◌*◌, ◌/◌, ◌%◌, ◌<◌, Bool, true, false, List, [], ◌∷◌, length, get_or, take, Some, None, sym, refl, ◌∙◌, subst, inl, inr, arith}
+use Rattle.std.proofs.Common.{◌≡◌, ℕ, zero, suc, ◌+◌, ◌*◌, ◌/◌, ◌%◌, ◌<◌, Bool, true, false, List, [], ◌∷◌, length, get_or, Some, None, sym, refl, ◌∙◌, inl, inr, arith}
 use Rattle.std.specs.List.{AllByRecursion}
 use Rattle.std.proofs.lemmas.List.{ext_get_or}
 use Rattle.std.proofs.lemmas.Bool.Decides.{nat_tests}
+use Rattle.std.specs.Char.{digit_value}
 use Rattle.recordings.specs.declared.heading.Heading.{Heading}
 use Rattle.recordings.specs.Recorded.{letter, hex_digit, Digit, Spells, LineOf}
-use Rattle.recordings.specs.Laws.{hex_of, line_of, LinesStand, LinesReadBack}
+use Rattle.recordings.specs.Laws.{hex_of, LinesStand, LinesReadBack}
 use Rattle.recordings.specs.declared.heading.Heading.TheVariants.{Down, Up}
 
 -- the two letters differ
@@ -15,25 +16,18 @@ letter_apart Down Up e = absurd (omega arith)
 letter_apart Up Down e = absurd (omega arith)
 letter_apart Up Up e = refl
 
--- digits of different values differ
-hex_digit_apart : (b c : Bool) (v w : ℕ) → v < 16 → w < 16 → hex_digit b v ≡ hex_digit c w → v ≡ w
-hex_digit_apart true true v w small little e = grind (arith, nat_tests)
-hex_digit_apart true false v w small little e = grind (arith, nat_tests)
-hex_digit_apart false true v w small little e = grind (arith, nat_tests)
-hex_digit_apart false false v w small little e = grind (arith, nat_tests)
+-- a digit says its value
+digit_is : (x v : ℕ) → v < 16 → Digit x v → digit_value x ≡ v
+digit_is x v small (inl e) = grind (arith, nat_tests)
+digit_is x v small (inr e) = grind (arith, nat_tests)
 
-digit_apart : (x v w : ℕ) → v < 16 → w < 16 → Digit x v → Digit x w → v ≡ w
-digit_apart x v w small little (inl p) (inl q) = hex_digit_apart true true v w small little (sym p ∙ q)
-digit_apart x v w small little (inl p) (inr q) = hex_digit_apart true false v w small little (sym p ∙ q)
-digit_apart x v w small little (inr p) (inl q) = hex_digit_apart false true v w small little (sym p ∙ q)
-digit_apart x v w small little (inr p) (inr q) = hex_digit_apart false false v w small little (sym p ∙ q)
-
+-- two digits spell one octet only
 spells_apart : (x y o p : ℕ) → Spells x y o → Spells x y p → o ≡ p
 spells_apart x y o p s t =
-    let so = s.small in
-    let sp = t.small in
-    let high = digit_apart x (o / 16) (p / 16) (omega arith) (omega arith) s.high t.high in
-    let low = digit_apart y (o % 16) (p % 16) (omega arith) (omega arith) s.low t.low in
+    let first = s.small in
+    let second = t.small in
+    let high : o / 16 ≡ p / 16 = sym (digit_is x (o / 16) (omega arith) s.high) ∙ digit_is x (p / 16) (omega arith) t.high in
+    let low : o % 16 ≡ p % 16 = sym (digit_is y (o % 16) (omega arith) s.low) ∙ digit_is y (p % 16) (omega arith) t.low in
     omega arith
 
 -- a line is the line of one string only
@@ -45,10 +39,10 @@ line_apart h k s t line a b =
     )
 
 pub lines_read_back : LinesReadBack
-lines_read_back line before after None (none, same) = (λ h string is. none h string is, λ un. refl)
-lines_read_back line before after (Some r) read = (
-  λ h string is. line_apart r.heading h (take r.length after) string line read.string is,
-  λ un. absurd (un r.heading (take r.length after) read.string),
+lines_read_back line None none = (λ h string is. none h string is, λ un. refl)
+lines_read_back line (Some r) read = (
+  λ h string is. line_apart r.heading h r.string.items string line read is,
+  λ un. absurd (un r.heading r.string.items read),
 )
 
 -- the digits of a string, place by place
@@ -70,8 +64,7 @@ hex_spells capital (o ∷ os) (suc i) below (small, octets) =
     let ih = hex_spells (λ (k : ℕ). capital (2 + k)) os i (omega arith) octets in
     let first : 2 * suc i ≡ suc (suc (2 * i)) = omega arith in
     let second : 1 + 2 * suc i ≡ suc (suc (1 + 2 * i)) = omega arith in
-    subst (λ (n : ℕ). Spells (get_or (hex_of capital (o ∷ os)) n 0) (get_or (hex_of capital (o ∷ os)) (1 + 2 * suc i) 0) (get_or os i 0)) (sym first)
-    (subst (λ (n : ℕ). Spells (get_or (hex_of capital (o ∷ os)) (suc (suc (2 * i))) 0) (get_or (hex_of capital (o ∷ os)) n 0) (get_or os i 0)) (sym second) ih)
+    rw (second, first) ih
 
 pub lines_stand_lem : LinesStand
 lines_stand_lem h capital s short octets =
@@ -84,7 +77,5 @@ lines_stand_lem h capital s short octets =
       digits = λ i below.
           let first : 2 + 2 * i ≡ suc (suc (2 * i)) = omega arith in
           let second : 3 + 2 * i ≡ suc (suc (1 + 2 * i)) = omega arith in
-          subst (λ (n : ℕ). Spells (get_or (line_of h capital s) n 0) (get_or (line_of h capital s) (3 + 2 * i) 0) (get_or s i 0)) (sym first)
-          (subst (λ (n : ℕ). Spells (get_or (line_of h capital s) (suc (suc (2 * i))) 0) (get_or (line_of h capital s) n 0) (get_or s i 0)) (sym second)
-          (hex_spells capital s i below octets));
+          rw (second, first) (hex_spells capital s i below octets);
     }

@@ -1,42 +1,44 @@
 -- The splitter keeps the line so far, and cuts an input into its lines.
-use Rattle.std.proofs.Common.{◌≡◌, ℕ, ◌+◌, ◌<◌, ◌≤◌, Bool, true, false, List, [], ◌∷◌, ◌++◌, map, length, get_or, take, set, Option, sym, refl, ap, ◌∙◌, subst, append_assoc, arith, length-append}
-use Rattle.std.specs.List.{flat_map}
-use Rattle.std.proofs.lemmas.List.{take_more, take_more_set, append-nil, flat_map_more, map_push, length-take-le}
-use Rattle.std.proofs.ByRecursion.{All-push, All-append}
+use Rattle.std.proofs.Common.{◌≡◌, ℕ, ◌+◌, ◌<◌, ◌≤◌, eqb, List, [], ◌∷◌, ◌++◌, map, length, get_or, take, Some, None, Option, sym, refl, ap, ◌∙◌, append_assoc, arith, length-append}
+use Rattle.std.proofs.lemmas.Bool.{eqb-true, eqb-false}
+use Rattle.std.proofs.lemmas.Bool.Decides.{nat_tests}
+use Rattle.std.proofs.lemmas.List.Quantifiers.{position-Some}
+use Rattle.std.proofs.lemmas.List.Sums.{fails_before_first}
+use Rattle.std.specs.List.{flat_map, position, position_or_len}
+use Rattle.std.proofs.lemmas.List.{take_more, get_or-take, append-nil, flat_map_more, map_push, length-take-le}
+use Rattle.std.proofs.ByRecursion.{All-push, All-append, All-from_get_or}
 use Rattle.recordings.specs.declared.splitter.Splitter.{Splitter}
-use Rattle.recordings.specs.Split.{told, Kept, Holds, Unbroken, Joins, closed, begun, fed, ended, LinesCut}
+use Rattle.recordings.specs.Split.{told, Unbroken, joined, Joins, Ended, closed, begun, fed, ended, LinesCut}
 
--- an octet joins a line that has room
-pub kept_more :
-    (over : Bool) (octets : List ℕ) (used x : ℕ) (p : List ℕ) → used < length octets →
-    Kept over (take used octets) p → Kept over (take (used + 1) (set octets used x)) (p ++ (x ∷ []))
-kept_more true octets used x p room long = omega (arith, length-append p (x ∷ []))
-kept_more false octets used x p room is = take_more_set octets used x room ∙ ap (λ (q : List ℕ). q ++ (x ∷ [])) is
-
--- a full line is over with one octet more
-pub kept_over :
-    (over : Bool) (octets : List ℕ) (used x : ℕ) (p : List ℕ) → 1024 ≤ used → used ≤ length octets →
-    Kept over (take used octets) p → 1024 < length (p ++ (x ∷ []))
-kept_over true octets used x p full fits long = omega (arith, length-append p (x ∷ []))
-kept_over false octets used x p full fits is =
-    omega (arith, length-append p (x ∷ []), length-take-le used octets fits, ap length is)
-
--- one octet more of a piece joins the line
-pub joins_more :
-    (s t u : Splitter) (octets : List ℕ) (i : ℕ) → i < length octets → Joins s (take i octets) t → Joins t (get_or octets i 0 ∷ []) u →
-    Joins s (take (i + 1) octets) u
-joins_more s t u octets i below first then p holds =
-    subst (λ (q : List ℕ). Holds u q)
-    (append_assoc p (take i octets) (get_or octets i 0 ∷ []) ∙ ap (λ (q : List ℕ). p ++ q) (sym (take_more octets i 0 below)))
-    (then (p ++ take i octets) (first p holds))
+-- what is kept of a line takes octets behind it as the line does
+pub joined_told : (p octets : List ℕ) → joined (told p) octets ≡ told (p ++ octets)
+joined_told p octets = grind (arith, nat_tests, length-append p octets)
 
 -- an octet that is no line feed
 abbrev pub Plain : ℕ → Type 0
 Plain c = c ≡ 10 → ⊥
 
--- a piece up to its first line feed is closed by it
-pub closed_more : (octets : List ℕ) (i : ℕ) → i < length octets → get_or octets i 0 ≡ 10 → take (i + 1) octets ≡ closed (take i octets)
-closed_more octets i below feed = take_more octets i 0 below ∙ ap (λ (x : ℕ). take i octets ++ (x ∷ [])) feed
+-- a piece in which the first line feed stands at n
+pub ended_at :
+    (s t : Splitter) (octets : List ℕ) (n : ℕ) → Some n ≡ position (λ (x : ℕ). eqb x 10) octets → Joins s (take n octets) t → Ended s octets t (n + 1)
+ended_at s t octets n first joins =
+    let (within, feed, plain) = position-Some (λ (x : ℕ). eqb x 10) octets n 0 (sym first) in
+    record {
+      front = take n octets;
+      some = omega arith;
+      within = omega arith;
+      taken = take_more octets n 0 within ∙ ap (λ (x : ℕ). take n octets ++ (x ∷ [])) (eqb-true (get_or octets n 0) 10 feed);
+      unbroken = All-from_get_or Plain (take n octets) 0 (λ k below.
+          let fits : k < n = omega (arith, length-take-le n octets (omega arith)) in
+          rw (get_or-take n octets k 0 fits) (eqb-false (get_or octets k 0) 10 (plain k fits)));
+      joins = joins;
+    }
+
+-- a piece with no line feed
+pub unbroken_all : (octets : List ℕ) → ◌≡◌ {A = Option ℕ} None (position (λ (x : ℕ). eqb x 10) octets) → Unbroken octets
+unbroken_all octets none =
+    let all : length octets ≤ position_or_len (λ (x : ℕ). eqb x 10) octets = grind (arith, nat_tests) in
+    All-from_get_or Plain octets 0 (λ k below. eqb-false (get_or octets k 0) 10 (fails_before_first (λ (x : ℕ). eqb x 10) octets k 0 (omega arith)))
 
 pub lines_cut : LinesCut
 lines_cut s said input (begun holds) =
@@ -50,7 +52,7 @@ lines_cut s said input (fed octets run (unbroken, joins)) =
       unbroken = cut.unbroken;
       going = All-append Plain cut.last octets cut.going unbroken;
       said_is = cut.said_is;
-      holds = joins cut.last cut.holds;
+      holds = joins ∙ ap (λ (o : Option (List ℕ)). joined o octets) cut.holds ∙ joined_told cut.last octets;
     }
 lines_cut s said input (ended octets n a run done says fresh) =
     let cut = lines_cut _ _ _ run in
@@ -70,7 +72,7 @@ lines_cut s said input (ended octets n a run done says fresh) =
       going = tt;
       said_is =
           ap (λ (q : List (Option (List ℕ))). q ++ (a ∷ [])) cut.said_is
-          ∙ ap (λ (x : Option (List ℕ)). map told cut.lines ++ (x ∷ [])) (says line (done.joins cut.last cut.holds))
+          ∙ ap (λ (x : Option (List ℕ)). map told cut.lines ++ (x ∷ [])) (says line (done.joins ∙ ap (λ (o : Option (List ℕ)). joined o done.front) cut.holds ∙ joined_told cut.last done.front))
           ∙ sym (map_push told cut.lines line);
       holds = fresh;
     }

@@ -1,6 +1,6 @@
 -- What holds of input lines.
 -- Assumes nothing.
-use Rattle.std.specs.Prelude.{◌≡◌, ℕ, ◌+◌, ◌/◌, ◌%◌, ◌<◌, ◌≤◌, Bool, List, [], ◌∷◌, length, take, Some, None, Option}
+use Rattle.std.specs.Prelude.{◌≡◌, ℕ, ◌+◌, ◌/◌, ◌%◌, ◌<◌, ◌≤◌, Bool, List, [], ◌∷◌, length, Some, None, Option}
 use Rattle.std.specs.List.{AllByRecursion}
 use Rattle.recordings.specs.declared.heading.Heading.{Heading}
 use Rattle.recordings.specs.declared.heading.Recorded.{Recorded}
@@ -22,12 +22,12 @@ LinesStand =
     LineOf h string (line_of h capital string)
 
 -- the line was read as this direction and this string
-abbrev pub ReadAs : Heading → List ℕ → List ℕ → Option Recorded → Type 0
-ReadAs h string buffer None = ⊥
-ReadAs h string buffer (Some r) = (r.heading ≡ h) × (take r.length buffer ≡ string)
+abbrev pub ReadAs : Heading → List ℕ → Option Recorded → Type 0
+ReadAs h string None = ⊥
+ReadAs h string (Some r) = (r.heading ≡ h) × (r.string.items ≡ string)
 
 -- the line of a string reads back as exactly that direction and string; every other line is unread
 abbrev pub LinesReadBack : Type 0
 LinesReadBack =
-    (line before after : List ℕ) (r : Option Recorded) → Reading line before after r →
-    ((h : Heading) (string : List ℕ) → LineOf h string line → ReadAs h string after r) × (Unread line → r ≡ None)
+    (line : List ℕ) (r : Option Recorded) → Reading line r →
+    ((h : Heading) (string : List ℕ) → LineOf h string line → ReadAs h string r) × (Unread line → r ≡ None)

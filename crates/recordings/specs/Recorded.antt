@@ -1,6 +1,6 @@
 -- Input lines: the line of a recorded string, and what reading a line answers.
 -- Assumes nothing.
-use Rattle.std.specs.Prelude.{◌≡◌, ℕ, ◌+◌, ◌*◌, ◌/◌, ◌%◌, ◌<◌, ◌≤◌, Bool, true, false, cond, ◌⊎◌, List, length, take, drop, Some, None, Option, nat_lt, slice_index, slice_index_or}
+use Rattle.std.specs.Prelude.{◌≡◌, ℕ, ◌+◌, ◌*◌, ◌/◌, ◌%◌, ◌<◌, ◌≤◌, Bool, true, false, cond, ◌⊎◌, List, length, Some, None, Option, nat_lt, slice_index, slice_index_or}
 use Rattle.recordings.specs.declared.heading.Heading.{Heading}
 use Rattle.recordings.specs.declared.heading.Heading.TheVariants.{Down, Up}
 use Rattle.recordings.specs.declared.heading.Recorded.{Recorded}
@@ -36,13 +36,7 @@ pub record LineOf (h : Heading) (string line : List ℕ) : Type 0 where
 abbrev pub Unread : List ℕ → Type 0
 Unread line = (h : Heading) (string : List ℕ) → LineOf h string line → ⊥
 
--- the front of the buffer now holds the string of the line; what lies behind is as before
-pub record Read (line before after : List ℕ) (r : Recorded) : Type 0 where
-  pub string : LineOf r.heading (take r.length after) line
-  pub within : r.length ≤ 511
-  pub behind : drop r.length after ≡ drop r.length before
-
--- what reading a line answers, and what it leaves in the buffer
-abbrev pub Reading : List ℕ → List ℕ → List ℕ → Option Recorded → Type 0
-Reading line before after None = Unread line × (after ≡ before)
-Reading line before after (Some r) = Read line before after r
+-- what reading a line answers
+abbrev pub Reading : List ℕ → Option Recorded → Type 0
+Reading line None = Unread line
+Reading line (Some r) = LineOf r.heading r.string.items line

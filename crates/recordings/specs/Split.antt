@@ -1,6 +1,6 @@
 -- Cutting the input into lines.
 -- Assumes nothing.
-use Rattle.std.specs.Prelude.{◌≡◌, ℕ, ◌<◌, ◌≤◌, Bool, true, false, cond, List, [], ◌∷◌, ◌++◌, map, length, take, Some, None, Option, ◌≢◌, nat_le}
+use Rattle.std.specs.Prelude.{◌≡◌, ℕ, ◌<◌, ◌≤◌, cond, List, [], ◌∷◌, ◌++◌, map, length, take, Some, None, Option, ◌≢◌, nat_le}
 use Rattle.std.specs.List.{flat_map, AllByRecursion}
 use Rattle.recordings.specs.declared.splitter.Splitter.{Splitter}
 
@@ -9,20 +9,21 @@ abbrev pub told : List ℕ → Option (List ℕ)
 told p = cond (nat_le (length p) 1024) (Some p) None
 
 -- the splitter has p of the line so far
-abbrev pub Kept : Bool → List ℕ → List ℕ → Type 0
-Kept true octets p = 1024 < length p
-Kept false octets p = octets ≡ p
-
 abbrev pub Holds : Splitter → List ℕ → Type 0
-Holds s p = Kept s.over (take s.used s.octets) p
+Holds s p = s ≡ told p
 
 -- no octet of the list is a line feed
 abbrev pub Unbroken : List ℕ → Type 0
 Unbroken xs = AllByRecursion (λ (c : ℕ). c ≢ 10) xs
 
+-- what is kept of a line with octets behind it
+abbrev pub joined : Option (List ℕ) → List ℕ → Option (List ℕ)
+joined None octets = None
+joined (Some line) octets = told (line ++ octets)
+
 -- octets joined the line
 abbrev pub Joins : Splitter → List ℕ → Splitter → Type 0
-Joins before octets after = (p : List ℕ) → Holds before p → Holds after (p ++ octets)
+Joins before octets after = after ≡ joined before octets
 
 -- a line with the line feed that ends it
 abbrev pub closed : List ℕ → List ℕ

@@ -1,7 +1,9 @@
 -- What the steps of reading a line answer.
 -- Assumes nothing.
-use Rattle.std.specs.Prelude.{◌≡◌, ℕ, ◌+◌, ◌*◌, ◌<◌, ◌≤◌, Bool, true, false, List, length, Some, None, Option, ◌≢◌, slice_index}
+use Rattle.std.specs.Prelude.{◌≡◌, ℕ, ◌+◌, ◌*◌, ◌<◌, ◌≤◌, List, length, Some, None, Option, Result, MatchResult, ◌≢◌, slice_index}
+use Rattle.arrayvec.specs.ArrayVec.{ArrayVec}
 use Rattle.recordings.specs.declared.heading.Heading.{Heading}
+use Rattle.recordings.specs.declared.heading.NoHeading.{NoHeading}
 use Rattle.recordings.specs.Recorded.{letter, Digit, Spells}
 
 -- what two hex digits say: an octet, or none where one is no digit
@@ -14,16 +16,17 @@ abbrev pub ValueOf : ℕ → Option ℕ → Type 0
 ValueOf c None = (v : ℕ) → v < 16 → Digit c v → ⊥
 ValueOf c (Some v) = (v < 16) × Digit c v
 
--- the direction that a line opens with: its letter and a comma
-abbrev pub OpensWith : List ℕ → Option Heading → Type 0
-OpensWith line None = (h : Heading) → slice_index line 0 ≡ letter h → slice_index line 1 ≢ 44
-OpensWith line (Some h) = (2 ≤ length line) × (slice_index line 0 ≡ letter h) × (slice_index line 1 ≡ 44)
+-- what one octet says: the direction whose letter it is, or none
+abbrev pub HeadingOf : ℕ → Result Heading NoHeading → Type 0
+HeadingOf c r = MatchResult r (λ h. c ≡ letter h) (λ e. (e.0 ≡ c) × ((h : Heading) → c ≢ letter h))
 
--- the two digits of place i of the string
-abbrev pub SpelledAt : List ℕ → ℕ → ℕ → Type 0
-SpelledAt line i o = Spells (slice_index line (2 + 2 * i)) (slice_index line (3 + 2 * i)) o
+-- the hex digits of a string of up to 511 octets
+pub record DigitsOf (string digits : List ℕ) : Type 0 where
+  pub short : length string ≤ 511
+  pub long : length digits ≡ 2 * length string
+  pub spelled : (i : ℕ) → i < length string → Spells (slice_index digits (2 * i)) (slice_index digits (1 + 2 * i)) (slice_index string i)
 
--- whether the first octets of the string are all spelled, so many of them
-abbrev pub Spelled : List ℕ → ℕ → Bool → Type 0
-Spelled line count true = (i : ℕ) → i < count → (o : ℕ) × SpelledAt line i o
-Spelled line count false = (i : ℕ) × (i < count) × ((o : ℕ) → SpelledAt line i o → ⊥)
+-- what hex digits say: a string, or none where they are those of none
+abbrev pub Decoded : List ℕ → Option (ArrayVec ℕ) → Type 0
+Decoded digits None = (string : List ℕ) → DigitsOf string digits → ⊥
+Decoded digits (Some v) = DigitsOf v.items digits

@@ -1,15 +1,52 @@
 // What an input line says: the direction of a string, and the string.
+use arrayvec::ArrayVec;
 
 // The direction in which a string was sent: from the aircraft or to it.
-#[derive(Clone, Copy)]
+#[derive(Clone, Copy, PartialEq, Eq, Debug)]
 pub enum Heading {
     Down,
     Up,
 }
 
-// A line that was read: its direction, and how many octets its string has.
-#[derive(Clone, Copy)]
+// An octet that is the letter of no direction.
+#[derive(Clone, Copy, PartialEq, Eq, Debug)]
+pub struct NoHeading(pub u8);
+
+// The letter of a direction.
+impl From<Heading> for u8 {
+    ghost use Rattle.std.specs.Prelude.{◌≡◌};
+    ghost use Rattle.recordings.specs.Recorded.{letter};
+
+    ghost from_gives = { λ heading octet. octet ≡ letter heading };
+
+    fn from(heading: Heading) -> u8 {
+        match heading {
+            Heading::Down => b'D',
+            Heading::Up => b'U',
+        }
+    }
+}
+
+// The direction of a letter.
+impl TryFrom<u8> for Heading {
+    ghost use Rattle.recordings.specs.Steps.{HeadingOf};
+
+    type Error = NoHeading;
+
+    ghost try_from_gives = { HeadingOf };
+
+    fn try_from(octet: u8) -> Result<Heading, NoHeading> {
+        match octet {
+            b'D' => Ok(Heading::Down),
+            b'U' => Ok(Heading::Up),
+            _ => Err(NoHeading(octet)),
+        }
+    }
+}
+
+// A line that was read: its direction and its string.
+#[derive(Clone, Drop)]
 pub struct Recorded {
     pub heading: Heading,
-    pub length: usize,
+    pub string: ArrayVec<u8, 511>,
 }

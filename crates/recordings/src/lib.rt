@@ -7,7 +7,7 @@ mod laws;
 mod reading;
 mod splitter;
 
-pub use heading::{Heading, Recorded};
+pub use heading::{Heading, NoHeading, Recorded};
 pub use laws::lines_stand;
 pub use reading::read_line;
 pub use splitter::Splitter;

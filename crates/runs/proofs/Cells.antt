@@ -1,6 +1,6 @@
 -- The outgoing cells of an end, and what they say of its sender. Assumes nothing.
 use Rattle.std.proofs.Common.{◌≡◌, ℕ, zero, suc, ◌*◌, ◌<◌, ◌≤◌, Bool, true, false, cond, eqb, List, [], ◌∷◌, ◌++◌, length, sym, refl, ap, ◌∙◌, subst, arith, ne_eqb, eqb-true}
-use mathlib.Core.Option.{Option, none, some}
+use mathlib.Core.Option.{some}
 use Rattle.stores.specs.Held.{Stored}
 use Rattle.blocks.specs.Legal.{at, is_label, is_text}
 use Rattle.ends.specs.declared.types.Cell.{Cell}

@@ -1,5 +1,5 @@
 -- Where a number was found, its unsettled message stands. Assumes nothing.
-use Rattle.std.proofs.Common.{◌≡◌, ℕ, suc, Bool, true, false, cond, ◌&&◌, eqb, List, [], ◌∷◌, Some, None, sym, refl, ap, subst, arith, eqb-true}
+use Rattle.std.proofs.Common.{◌≡◌, ℕ, suc, Bool, true, false, cond, ◌&&◌, eqb, List, [], ◌∷◌, Some, None, sym, refl, subst, eqb-true}
 use Rattle.std.specs.declared.option.Option as std
 use Rattle.stores.specs.Held.{Stored}
 use Rattle.calls.specs.declared.types.Label.{Label}

@@ -12,7 +12,7 @@ use Rattle.calls.specs.declared.types.Outcome.{Outcome}
 use Rattle.calls.specs.declared.types.Outcome.TheVariants.{Delivered, NotDelivered, InDoubt}
 use Rattle.ends.specs.Model.{Outbox}
 use Rattle.ends.specs.Sending.{with_cells}
-use Rattle.law.specs.Senders.{Message, message, numbered, Status, unsettled, delivered, not_delivered, in_doubt, Phase, idle, ready, out}
+use Rattle.law.specs.Senders.{Message, message, numbered, Status, unsettled, Phase, idle, ready, out}
 use Rattle.runs.specs.History.{status_of, status_at, called_in}
 use Rattle.runs.specs.Strings.{cuts}
 use Rattle.runs.proofs.Rings.{Same}

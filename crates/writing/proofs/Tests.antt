@@ -3,10 +3,11 @@ use Rattle.std.proofs.Common.{◌≡◌, ℕ, suc, ◌+◌, ◌-◌, ◌<◌, �
 use Rattle.std.proofs.lemmas.Bool.{cases_lt, lt-ltb}
 use Rattle.std.proofs.lemmas.Bool.Decides.{nat_tests}
 use Rattle.blocks.specs.Fields.{Fields, response, message, head_of}
+use Rattle.std.specs.Option.{unwrap_or}
 use Rattle.blocks.specs.Legal.{Way, at, address_allows, head_allows, label_allows, TextKept, Sound}
 use Rattle.blocks.proofs.Steps.{range_more}
 use Rattle.writing.specs.Writing.{HeadGood, HeadBad}
-use Rattle.blocks.specs.Scans.{index_or, FirstFault}
+use Rattle.blocks.specs.Scans.{FirstFault}
 use Rattle.writing.specs.Laying.{Lengths, LabelTested}
 
 -- the address characters are as their rule asks, at the indices before i
@@ -18,10 +19,10 @@ module _ (xs a : List ℕ) (is : xs ≡ a) (long : length xs ≡ 7) where
   abbrev Scan : Option ℕ → Type 0
   Scan first = FirstFault (λ i b c t. t ≡ address_allows i b c) 50 xs first
 
-  pub address_kept : (first : Option ℕ) → Scan first → AddressGood a (index_or first 7)
+  pub address_kept : (first : Option ℕ) → Scan first → AddressGood a (unwrap_or first 7)
   address_kept first f j h =
       sym (subst (λ (ys : List ℕ). true ≡ address_allows j (at (50 ∷ ys) j) (at ys j)) is
-      (f.kept j (subst (λ (n : ℕ). j < index_or first n) (sym long) h)))
+      (f.kept j (subst (λ (n : ℕ). j < unwrap_or first n) (sym long) h)))
 
   pub address_bad : (i : ℕ) → Scan (Some i) → (i < 7) × (address_allows i (at (50 ∷ a) i) (at a i) ≡ false)
   address_bad i f = (omega (arith, f.broken.0, long), sym (subst (λ (ys : List ℕ). false ≡ address_allows i (at (50 ∷ ys) i) (at ys i)) is f.broken.1))

@@ -4,7 +4,6 @@ ghost use Rattle.std.specs.Option.{option_map};
 ghost use Rattle.blocks.specs.Reading.{Reads};
 ghost use Rattle.answers.specs.Laws.{way_of};
 ghost use Rattle.recordings.specs.Split.{told};
-ghost use Rattle.answers.specs.Shown.{shown};
 ghost use Rattle.answers.specs.Answered.{Answered};
 
 use crate::answer::AnswerLine;
@@ -15,24 +14,14 @@ use recordings::{Heading, Recorded, read_line};
 impl AnswerLine {
     // Makes this the line that answers an input line; none stands for a line of over 1,024 octets.
     pub fn answer(&mut self, count: u64, line: Option<&[u8]>)
-        ensures { (p : List ℕ) → option_map (λ x. x.now) line.entry ≡ told p → Answered p count (shown self.new) }
+        ensures { (p : List ℕ) → option_map (λ x. x.now) line.entry ≡ told p → Answered p count self.new }
     {
-        match line {
-            Some(line) => self.answer_line(count, line),
+        match line.and_then(|line| read_line(line)) {
+            Some(Recorded { heading, string }) => {
+                self.print_fitting(count, heading, read_string(heading, string.as_slice()))
+            }
             None => self.print_unread(count),
         }
-    }
-
-    fn answer_line(&mut self, count: u64, line: &[u8])
-        ensures { Answered line.now count (shown self.new) }
-    {
-        let mut string = [0; 511];
-        let Some(Recorded { heading, length }) = read_line(line, &mut string) else {
-            self.print_unread(count);
-            return;
-        };
-        let found = read_string(heading, &string[0..length]);
-        let _ = self.print(count, heading, found);
     }
 }
 

@@ -1,61 +1,84 @@
 // The lines that answer.
-ghost use Rattle.std.specs.Prelude.{◌≡◌, ◌+◌, ◌≤◌, [], ◌∷◌, ◌++◌, map, length, if◌then◌else◌, codes, decimal};
+ghost use Rattle.std.specs.Prelude.{◌≡◌, ◌+◌, ◌≤◌, ◌↔◌, [], ◌∷◌, ◌++◌, map, length, codes, decimal, IsTrue, IsOk, OnOk, OnErr};
 ghost use Rattle.octets.specs.Parity.{character};
 ghost use Rattle.blocks.specs.Fields.{named, fields_read};
 ghost use Rattle.blocks.specs.Faults.{number_of, place_of};
-ghost use Rattle.recordings.specs.Recorded.{letter};
-ghost use Rattle.answers.specs.Printed.{printed, block, refused, unread, acknowledged, outcome_of, fits_block, fits_line};
-ghost use Rattle.answers.specs.Shown.{shown, Added, SetOrKept};
+ghost use Rattle.answers.specs.Printed.{printed, unread, outcome_of, fits_block, fits_line, commas, detail, placed, acknowledged};
+ghost use Rattle.answers.specs.Room.{cut};
 
 use crate::answer::AnswerLine;
 use blocks::{Block, BlockFault};
 use directions::Identifier;
 use recordings::Heading;
 
+// A text of more than 220 octets.
+#[derive(Clone, Copy, PartialEq, Eq, Debug)]
+pub struct TextTooLong;
+
 impl AnswerLine {
     // Makes this the line of an input line that is no string's.
     pub fn print_unread(&mut self, count: u64)
-        ensures { shown self.new ≡ printed count unread }
+        ensures { self.new ≡ printed count unread }
     {
         self.clear();
         self.add_number(count);
-        self.add_unread();
+        self.add(b",-,0,unread\n");
     }
 
-    // Makes this the line of the answer of reading; false, and unchanged, if its text has more than 220 octets.
+    // Makes this the line of the answer of reading; refused, and unchanged, if its text has more than 220 octets.
     pub fn print(
         &mut self,
         count: u64,
         heading: Heading,
         answer: Result<Block<'_>, BlockFault>,
-    ) -> bool
-        ensures test { result ≡ fits_line answer.entry }
-        ensures text { SetOrKept self.old self.new (printed count (outcome_of heading answer.entry)) result }
+    ) -> Result<(), TextTooLong>
+        ensures fits { IsOk result ↔ IsTrue (fits_line answer.entry) }
+        ensures ok { OnOk result (self.new ≡ printed count (outcome_of heading answer.entry)) }
+        ensures err { OnErr result (self.new ≡ self.old) }
     {
+        if let Ok(Block::Message { text, .. }) = answer
+            && text.len() > 220
+        {
+            return Err(TextTooLong);
+        }
+        self.print_fitting(count, heading, answer);
+        Ok(())
+    }
+
+    // Makes this the line of an answer that fits.
+    pub(crate) fn print_fitting(
+        &mut self,
+        count: u64,
+        heading: Heading,
+        answer: Result<Block<'_>, BlockFault>,
+    )
+        requires { IsTrue (fits_line answer) }
+        ensures { self.new ≡ printed count (outcome_of heading answer.entry) }
+    {
+        self.clear();
+        self.add_number(count);
+        self.add_part(&[u8::from(heading)]);
         match answer {
-            Ok(block) => self.print_block(count, heading, block),
-            Err(fault) => {
-                self.print_refusal(count, heading, fault);
-                true
-            }
+            Ok(block) => self.add_block(block),
+            Err(fault) => self.add_fault(fault),
         }
     }
 
-    fn print_block(&mut self, count: u64, heading: Heading, found: Block<'_>) -> bool
-        ensures test { result ≡ fits_block found.entry }
-        ensures text { SetOrKept self.old self.new (printed count (block heading (fields_read found.entry))) result }
+    // Adds what a block is, and ends the line.
+    fn add_block(&mut self, block: Block<'_>)
+        requires { IsTrue (fits_block block) }
+        ensures added { self.new ≡ cut (self.old ++ (44 ∷ commas (codes "0" ∷ detail (fields_read block.entry)) ++ (10 ∷ []))) }
+        ensures short { length (commas (codes "0" ∷ detail (fields_read block.entry))) ≤ 480 }
     {
-        match found {
+        match block {
             Block::Response {
                 address,
                 acknowledgment,
                 identifier,
             } => {
-                self.print_opening(count, heading);
-                self.add(b"0,response,");
+                self.add(b",0,response");
                 self.add_head(address, acknowledgment);
-                self.add(&[identifier.0, b'\n']);
-                true
+                self.add_part(&[identifier.0, b'\n']);
             }
             Block::Message {
                 address,
@@ -65,93 +88,37 @@ impl AnswerLine {
                 last,
                 text,
             } => {
-                if text.len() > 220 {
-                    return false;
-                }
-                self.print_opening(count, heading);
-                self.add(b"0,message,");
+                self.add(b",0,message");
                 self.add_head(address, acknowledgment);
                 self.add_characters(label);
-                self.add(&[b',', identifier.0, b',']);
-                self.add_last(last);
-                self.add_octet(b',');
+                self.add_part(&[identifier.0]);
+                self.add_part(if last { b"last" } else { b"more" });
                 self.add_text(text);
-                self.add_octet(b'\n');
-                true
+                self.add(b"\n");
             }
         }
     }
 
-    fn print_refusal(&mut self, count: u64, heading: Heading, fault: BlockFault)
-        ensures { shown self.new ≡ printed count (refused heading (number_of fault) (place_of fault)) }
-    {
-        self.print_opening(count, heading);
-        self.add_number(fault.number() as u64);
-        self.add_octet(b',');
-        if let Some(place) = fault.place() {
-            self.add_number(place as u64);
-        }
-        self.add_octet(b'\n');
-    }
-
-    // The count and the direction, each with a comma behind it.
-    fn print_opening(&mut self, count: u64, heading: Heading)
-        ensures text { shown self.new ≡ decimal count ++ (44 ∷ letter heading ∷ 44 ∷ []) }
-        ensures long { self.new.used ≤ 23 }
-    {
-        self.clear();
-        self.add_number(count);
-        self.add(&[b',', letter_of(heading), b',']);
-    }
-
-    // Adds what stands behind the count of a line that is unread.
-    fn add_unread(&mut self)
-        requires { self.old.used + 12 ≤ 512 }
-        ensures { Added self.old self.new (codes ",-,0,unread\n") }
-    {
-        self.add(b",-,0,unread\n");
-    }
-
-    // Adds whether a block is its message's last.
-    fn add_last(&mut self, last: bool)
-        requires { self.old.used + 4 ≤ 512 }
-        ensures added { Added self.old self.new (if last then codes "last" else codes "more") }
-        ensures room { self.new.used ≡ self.old.used + 4 }
-    {
-        if last {
-            self.add(b"last");
-        } else {
-            self.add(b"more");
-        }
-    }
-
-    // Adds an address and an acknowledgment, each with a comma behind it.
+    // Adds an address, and an acknowledgment as its character, a hyphen for none.
     fn add_head(&mut self, address: &[u8; 7], acknowledgment: Option<Identifier>)
-        requires { self.old.used + 10 ≤ 512 }
-        ensures added { Added self.old self.new (map character address.now ++ (44 ∷ acknowledged (named acknowledgment) ∷ 44 ∷ [])) }
-        ensures room { self.new.used ≡ self.old.used + 10 }
+        ensures added { self.new ≡ cut (self.old ++ (44 ∷ map character address.now ++ (44 ∷ acknowledged (named acknowledgment) ∷ []))) }
+        ensures sized { length address.now ≡ 7 }
     {
         self.add_characters(address);
-        self.add(&[b',', mark_of(acknowledgment), b',']);
+        self.add_part(&[acknowledgment.map_or(b'-', |identifier| identifier.0)]);
     }
-}
 
-// The letter of a direction.
-fn letter_of(heading: Heading) -> u8
-    ensures { result ≡ letter heading }
-{
-    match heading {
-        Heading::Down => b'D',
-        Heading::Up => b'U',
-    }
-}
-
-// The character of an acknowledgment; a hyphen for none.
-fn mark_of(acknowledgment: Option<Identifier>) -> u8
-    ensures { result ≡ acknowledged (named acknowledgment) }
-{
-    match acknowledgment {
-        Some(identifier) => identifier.0,
-        None => b'-',
+    // Adds why a string is no block, the number of the refusal and its place if it has one, and ends the line.
+    fn add_fault(&mut self, fault: BlockFault)
+        ensures added { self.new ≡ cut (self.old ++ (44 ∷ decimal (number_of fault) ++ (44 ∷ placed (place_of fault) ++ (10 ∷ [])))) }
+        ensures short { length (decimal (number_of fault)) + length (placed (place_of fault)) ≤ 40 }
+    {
+        self.add(b",");
+        self.add_number(fault.number());
+        self.add(b",");
+        if let Some(place) = fault.place() {
+            self.add_number(place);
+        }
+        self.add(b"\n");
     }
 }

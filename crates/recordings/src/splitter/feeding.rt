@@ -1,19 +1,19 @@
 // Feeding the splitter, and what it tells.
-ghost use Rattle.std.specs.Prelude.{◌≡◌, ℕ, List, [], ◌∷◌, ◌++◌, length, nat_lt};
+ghost use Rattle.std.specs.Prelude.{◌≡◌, ◌≢◌, ◌↔◌, ℕ, List, [], ◌++◌, Option, Some, IsTrue, ◌==◌};
+ghost use Rattle.std.specs.List.{position};
 ghost use Rattle.std.specs.Option.{option_map};
-ghost use Rattle.recordings.specs.Split.{Holds, Fed, told};
+ghost use Rattle.recordings.specs.Split.{Fed, joined};
 
 use crate::splitter::Splitter;
+use arrayvec::ArrayVec;
 
 impl Splitter {
     // At the start of the input.
     pub fn new() -> Splitter
-        ensures { Holds result [] }
+        ensures { result ≡ Some [] }
     {
         Splitter {
-            octets: [0; 1024],
-            used: 0,
-            over: false,
+            line: Some(ArrayVec::new()),
         }
     }
 
@@ -21,50 +21,54 @@ impl Splitter {
     pub fn feed(&mut self, octets: &[u8]) -> Option<usize>
         ensures { Fed self.old octets.now self.new result }
     {
-        for (i, octet) in octets.iter().enumerate() {
-            if *octet == b'\n' {
-                return Some(i + 1);
+        match line_feed(octets) {
+            Some(end) => {
+                self.keep(&octets[..end]);
+                Some(end + 1)
             }
-            self.keep(*octet);
+            None => {
+                self.keep(octets);
+                None
+            }
         }
-        None
     }
 
     // The line so far; none if it is over 1,024 octets long.
     pub fn line(&self) -> Option<&[u8]>
-        ensures { (p : List ℕ) → Holds self.now p → option_map (λ x. x.now) result ≡ told p }
+        ensures { option_map (λ x. x.now) result ≡ self.now }
     {
-        if self.over {
-            None
-        } else {
-            Some(&self.octets[0..self.used])
-        }
+        self.line.as_ref().map(|line| line.as_slice())
     }
 
     // Whether the line so far has an octet.
     pub fn is_begun(&self) -> bool
-        ensures { (p : List ℕ) → Holds self.now p → result ≡ nat_lt 0 (length p) }
+        ensures { IsTrue result ↔ (self.now ≢ Some []) }
     {
-        self.over || self.used > 0
+        !self.line.as_ref().is_some_and(|line| line.is_empty())
     }
 
     // At the start of the next line.
     pub fn restart(&mut self)
-        ensures { Holds self.new [] }
+        ensures { self.new ≡ Some [] }
     {
-        self.used = 0;
-        self.over = false;
+        *self = Splitter::new();
     }
 
-    // Adds an octet to the line.
-    fn keep(&mut self, octet: u8)
-        ensures { (p : List ℕ) → Holds self.old p → Holds self.new (p ++ (octet ∷ [])) }
+    // Adds octets to the line.
+    fn keep(&mut self, octets: &[u8])
+        ensures { self.new ≡ joined self.old octets.now }
     {
-        if self.used < 1024 {
-            self.octets[self.used] = octet;
-            self.used += 1;
-        } else {
-            self.over = true;
+        if let Some(line) = &mut self.line
+            && line.try_extend_from_slice(octets).is_err()
+        {
+            self.line = None;
         }
     }
+}
+
+// The place of the first line feed.
+fn line_feed(octets: &[u8]) -> Option<usize>
+    ensures { result ≡ position (λ octet. octet == 10) octets.now }
+{
+    octets.iter().position(|octet| *octet == b'\n')
 }

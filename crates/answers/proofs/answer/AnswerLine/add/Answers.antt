@@ -1,20 +1,12 @@
--- A turn adds the next part.
-use Rattle.std.proofs.Common.{ℕ, List, subst, arith}
-use Rattle.std.proofs.lemmas.List.{take_all}
-use Rattle.answers.specs.Shown.{Added}
-use Rattle.answers.proofs.Adding.{added_then, added_none, plain_more}
+-- As much as there is room for.
+use Rattle.std.proofs.Common.{rules, ◌≡◌, ◌∙◌, ◌++◌, min, length, take}
+use Rattle.answers.proofs.Adding.{added}
 use Rattle.answers.proofs.answer.AnswerLine.add.Goals as goal
-
-pub loop-octet-init : goal.loop-octet-init
-loop-octet-init c = (added_none c.args.self.now, omega arith)
-
-pub loop-octet-preserved : goal.loop-octet-preserved
-loop-octet-preserved c = (
-  added_then _ _ _ _ _ _ (plain_more c.args.part.now c.loop-octet.octet-index c.loop-octet-test.true) c.loop-octet.invariant.0 c.add_octet.ensures,
-  omega (arith, c.add_octet.ensures.long),
-)
 
 pub returns : goal.returns
 returns c =
-    subst (λ (p : List ℕ). Added c.args.self.now c.loop-octet.self p)
-    (take_all c.loop-octet.octet-index c.args.part.now c.loop-octet-test.false) c.loop-octet.invariant.0
+    let old = c.args.self.now in
+    let part = c.args.part.now in
+    let room = c.remaining_capacity.result in
+    let text : c.try_extend_from_slice.new.self.items ≡ old ++ take (min room (length part)) part = search rules in
+    text ∙ added old part 512 room (rw (← c.self.view_is) c.remaining_capacity.ensures)

@@ -1,14 +1,11 @@
--- The address, and the acknowledgment between two commas.
-use Rattle.std.proofs.Common.{ℕ, [], ◌∷◌, ◌++◌, map, ap, arith}
-use Rattle.octets.specs.Parity.{character}
-use Rattle.answers.proofs.Adding.{added_then}
+-- The address, and the acknowledgment.
+use Rattle.std.proofs.Common.{rules, ◌≡◌, append_assoc}
+use Rattle.blocks.specs.Fields.{named}
+use Rattle.answers.specs.Printed.{acknowledged}
+use Rattle.answers.proofs.Adding.{cut_then}
 use Rattle.answers.proofs.answer.AnswerLine.add_head.Goals as goal
 
-pub returns : goal.returns
-returns c =
-    record {
-      added = added_then c.args.self.now c.add_characters.new.self c.add.new.self _ _ _
-          (ap (λ (x : ℕ). map character c.args.address.now ++ (44 ∷ x ∷ 44 ∷ [])) c.mark_of.ensures)
-          c.add_characters.ensures.added c.add.ensures;
-      room = omega (arith, c.add.ensures.long, c.add_characters.ensures.room);
-    }
+pub returns-clause-added : goal.returns-clause-added
+returns-clause-added c =
+    let mark : c.map_or.result ≡ acknowledged (named c.args.acknowledgment) = search rules in
+    rw (c.add_part.ensures, c.add_characters.ensures.added, mark) (simp (cut_then, append_assoc))

@@ -1,26 +1,15 @@
--- A turn adds the next part.
-use Rattle.std.proofs.Common.{ℕ, List, map, subst, arith}
-use Rattle.std.specs.List.{flat_map}
-use Rattle.std.proofs.lemmas.List.{take_all}
-use Rattle.octets.specs.Parity.{character}
-use Rattle.answers.specs.Printed.{escaped}
-use Rattle.answers.specs.Shown.{Added}
-use Rattle.answers.proofs.Adding.{added_then, added_none, text_more}
+-- A turn adds the next character.
+use Rattle.std.proofs.Common.{[], ◌∷◌, ◌++◌, sym, append_assoc, append-nil, take_all}
+use Rattle.answers.proofs.Adding.{cut_then, cut_again, text_more}
 use Rattle.answers.proofs.answer.AnswerLine.add_text.Goals as goal
 
 pub loop-octet-init : goal.loop-octet-init
-loop-octet-init c = (added_none c.args.self.now, omega arith)
+loop-octet-init c = rw (append-nil, c.add.ensures) (sym (cut_again 512 (c.args.self.now ++ (44 ∷ []))))
 
 pub loop-octet-preserved : goal.loop-octet-preserved
-loop-octet-preserved c = (
-  added_then _ _ _ _ _ _ (text_more c.args.text.now c.loop-octet.octet-index c.character_of.result c.character_of.ensures c.loop-octet-test.true) c.loop-octet.invariant.0 c.add_escaped.ensures.added,
-  omega (arith, c.add_escaped.ensures.room),
-)
+loop-octet-preserved c =
+    let more = text_more c.args.text.now c.loop-octet.octet-index c.character_of.result c.character_of.ensures c.loop-octet-test.true in
+    rw (c.add_escaped.ensures, c.loop-octet.invariant, ← more) (simp (cut_then, append_assoc))
 
 pub returns : goal.returns
-returns c =
-    record {
-      added = subst (λ (p : List ℕ). Added c.args.self.now c.loop-octet.self (flat_map escaped (map character p)))
-          (take_all c.loop-octet.octet-index c.args.text.now c.loop-octet-test.false) c.loop-octet.invariant.0;
-      room = omega (arith, c.loop-octet.invariant.1);
-    }
+returns c = rw (c.loop-octet.invariant, c.add.ensures, take_all c.loop-octet.octet-index c.args.text.now c.loop-octet-test.false) (simp (cut_then, append_assoc))

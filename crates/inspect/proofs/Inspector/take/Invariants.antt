@@ -1,6 +1,6 @@
 -- Each turn takes an octet or more.
 use Rattle.std.proofs.Common.{length}
-use Rattle.inspect.proofs.answer_ended.Given as goal
+use Rattle.inspect.proofs.Inspector.take.Given as goal
 
 abbrev pub decreases-loop-used : goal.decreases-loop-used
-decreases-loop-used l = length l.rest
+decreases-loop-used g l = length l.rest
