@@ -32,7 +32,10 @@ impl<O: Direction<Other = I>, I: Direction<Other = O>> End<O, I> {
     fn is_addressed(&self, address: &[u8; 7]) -> bool
         ensures { IsTrue result ↔ (map character address.now ≡ (model self.now).settings.registration) }
     {
-        address.map(|octet| character_of(octet)) == self.settings.values.registration
+        address
+            .iter()
+            .zip(&self.settings.values.registration)
+            .all(|(octet, character)| character_of(*octet) == *character)
     }
 
     // Hears a block that bears this end's address.
@@ -53,7 +56,7 @@ impl<O: Direction<Other = I>, I: Direction<Other = O>> End<O, I> {
         };
         self.hear_block(HeardBlock {
             identifier,
-            label: Label(label.map(|octet| character_of(octet))),
+            label: Label([character_of(label[0]), character_of(label[1])]),
             last,
             octets: text,
             text: &characters(text),
