@@ -1,0 +1,3 @@
+pub mod Served
+pub mod Links
+pub mod Laws
