@@ -1,3 +1,4 @@
 pub mod Served
 pub mod Links
 pub mod Laws
+pub mod Turns

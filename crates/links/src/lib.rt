@@ -2,8 +2,11 @@
 #![tactic(auto)]
 
 mod link;
+mod request;
 mod served;
 mod station;
+mod turns;
 
 pub use link::Link;
+pub use request::Request;
 pub use station::Station;

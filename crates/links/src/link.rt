@@ -14,10 +14,10 @@ use paths::{AirPath, drain};
 // The aircraft end and the ground end of one registration, the path that downlinks take, and the one that uplinks take.
 #[derive(Drop)]
 pub struct Link<P, Q> {
-    aircraft: End<Downlink, Uplink>,
-    ground: End<Uplink, Downlink>,
-    down: P,
-    up: Q,
+    pub(crate) aircraft: End<Downlink, Uplink>,
+    pub(crate) ground: End<Uplink, Downlink>,
+    pub(crate) down: P,
+    pub(crate) up: Q,
 }
 
 impl<P: AirPath + Drop, Q: AirPath + Drop> Link<P, Q> {

@@ -1,0 +1,45 @@
+-- Calls served in turn, by what serving one of them means, and the run that they make.
+-- Assumes nothing.
+use Rattle.std.specs.Prelude.{◌≡◌, ℕ, ◌+◌, ◌<◌, ◌≤◌, List, [], ◌∷◌, ◌++◌, length, Some, None, Ok, Err, Option, Result}
+use Rattle.calls.specs.declared.fault.LinkFault.{LinkFault}
+use Rattle.calls.specs.declared.call.Side.{Side}
+use Rattle.calls.specs.declared.call.Call.{Call}
+use Rattle.calls.specs.declared.call.Answer.{Answer}
+use Rattle.calls.specs.Faults.{number_of, place_of}
+use Rattle.runs.specs.Links.{Deed, Event, at, Run, Onward}
+use Rattle.links.specs.declared.request.Request.{Request}
+use Rattle.links.specs.Served.{IsDeed}
+use Rattle.links.specs.Links.{Sight, seen, side_of}
+
+module _ {S : Type 0} (serves : Side → S → List ℕ → Call → Answer → S → List ℕ → Type 0) where
+  -- calls and their answers, one after the other
+  pub data InTurn (s : S) (b : List ℕ) : List Request → List Answer → S → List ℕ → Type 0 where
+    none_served : InTurn s b [] [] s b
+    one_more : {qs : List Request} {ys : List Answer} {s' s'' : S} {b' b'' : List ℕ} {q : Request} {a : Answer} →
+        InTurn s b qs ys s' b' → serves q.side s' b' q.call a s'' b'' → InTurn s b (qs ++ q ∷ []) (ys ++ a ∷ []) s'' b''
+
+  -- a list of calls is served whole; or refused by 1, if there is no room for so many answers
+  abbrev pub Served : ℕ → S → List ℕ → List Request → List Answer → Result (Unit {0}) LinkFault → List Answer → S → List ℕ → Type 0
+  Served most s b qs before (Ok u) after s' b' =
+      (ys : List Answer) × (after ≡ before ++ ys) × (length before + length qs ≤ most) × InTurn s b qs ys s' b'
+  Served most s b qs before (Err f) after s' b' =
+      (number_of f ≡ 1) × (place_of f ≡ None) × (most < length before + length qs) × (after ≡ before) × (s' ≡ s) × (b' ≡ b)
+
+-- a history goes on by exactly these calls and answers
+pub data Logged (h : List Event) : List Request → List Answer → List Event → Type 0 where
+  none_logged : Logged h [] [] h
+  one_logged : {qs : List Request} {ys : List Answer} {h' : List Event} (q : Request) (a : Answer) (b b' : List ℕ) (d : Deed) →
+      Logged h qs ys h' → IsDeed q.call a b b' d → Logged h (qs ++ q ∷ []) (ys ++ a ∷ []) (at (side_of q.side) d ∷ h')
+
+module _ {V U : Type 0} (sv : V → List (List ℕ)) (su : U → List (List ℕ)) where
+  -- every run that ends in the link before goes on, by exactly these calls and answers, to a run that ends in the link after
+  abbrev pub RunsOn : Sight V U → List Request → List Answer → Sight V U → Type 0
+  RunsOn s qs ys s' = (h : List Event) (r : Run h (seen sv su s)) →
+      (h' : List Event) × (r' : Run h' (seen sv su s')) × Logged h qs ys h' × Onward h (seen sv su s) r h' (seen sv su s') r'
+
+  abbrev pub GoesOn : Sight V U → List Request → List Answer → List Answer → Sight V U → Type 0
+  GoesOn s qs before after s' = (ys : List Answer) × (after ≡ before ++ ys) × RunsOn s qs ys s'
+
+  -- a run from a new link, by exactly these calls and answers
+  abbrev pub Began : List Request → List Answer → List Answer → Sight V U → Type 0
+  Began qs before after s = (ys : List Answer) × (h : List Event) × (after ≡ before ++ ys) × Logged [] qs ys h × Run h (seen sv su s)

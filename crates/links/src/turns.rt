@@ -1,0 +1,35 @@
+// Serving calls in turn.
+ghost use Rattle.std.specs.Prelude.{◌≡◌, [], IfOk};
+ghost use Rattle.links.specs.Links.{sight, ServedAt};
+ghost use Rattle.links.specs.Laws.{LinkLaw};
+ghost use Rattle.links.specs.Turns.{Served, GoesOn, Began};
+
+use crate::link::Link;
+use crate::request::Request;
+use crate::station::Station;
+use arrayvec::ArrayVec;
+use calls::{Answer, LinkFault};
+use ends::Memory;
+use paths::AirPath;
+
+impl<P: AirPath + Drop, Q: AirPath + Drop> Link<P, Q> {
+    // Serves calls in turn, and puts their answers behind those that stand there; refused where there is no room for all, and then nothing is served.
+    pub fn serve_all<const N: usize>(
+        &mut self,
+        requests: &[Request<'_>],
+        answers: &mut ArrayVec<Answer, N>,
+        buffer: &mut [u8],
+    ) -> Result<(), LinkFault>
+        ensures exact { Served (ServedAt P.AirPath.strings Q.AirPath.strings P.AirPath.puts P.AirPath.takes Q.AirPath.puts Q.AirPath.takes) N (sight P.AirPath.sees Q.AirPath.sees self.old) buffer.old requests.now answers.old.items result answers.new.items (sight P.AirPath.sees Q.AirPath.sees self.new) buffer.new }
+        ensures run { IfOk result (λ u. GoesOn P.AirPath.strings Q.AirPath.strings (sight P.AirPath.sees Q.AirPath.sees self.old) requests.now answers.old.items answers.new.items (sight P.AirPath.sees Q.AirPath.sees self.new)) }
+        ensures law { LinkLaw }
+    {
+        if answers.remaining_capacity() < requests.len() {
+            return Err(LinkFault::Buffer);
+        }
+        for request in requests {
+            answers.push(self.serve(request.side, request.call, buffer));
+        }
+        Ok(())
+    }
+}
