@@ -1,13 +1,13 @@
 -- Calls served in turn make a run. Assumes nothing.
-use Rattle.std.proofs.Common.{◌≡◌, ℕ, ◌+◌, ◌<◌, ◌≤◌, List, [], ◌∷◌, ◌++◌, length, take, get_or, Option, sym, subst, ap, ◌∙◌}
+use Rattle.std.proofs.Common.{ℕ, ◌+◌, ◌<◌, ◌≤◌, List, [], ◌∷◌, ◌++◌, length, take, get_or, Option, sym, subst}
 use Rattle.std.proofs.lemmas.List.{take_more, take_all}
 use Rattle.calls.specs.declared.call.Side.{Side}
 use Rattle.calls.specs.declared.call.Call.{Call}
 use Rattle.calls.specs.declared.call.Answer.{Answer}
-use Rattle.runs.specs.Links.{Event, Run, ◌then◌, same, onward}
+use Rattle.runs.specs.Links.{◌then◌, same, onward}
 use Rattle.links.specs.declared.request.Request.{Request}
-use Rattle.links.specs.Links.{Sight, seen, ServedAt}
-use Rattle.links.specs.Turns.{InTurn, none_served, one_more, Logged, none_logged, one_logged, RunsOn}
+use Rattle.links.specs.Links.{Sight, ServedAt}
+use Rattle.links.specs.Turns.{InTurn, none_served, one_more, none_logged, one_logged, RunsOn}
 use Rattle.links.proofs.Stepping.{steps}
 
 module _ {V U : Type 0} (sv : V → List (List ℕ)) (su : U → List (List ℕ))

@@ -30,9 +30,9 @@ module _ {V U : Type 0} (sv : V → List (List ℕ)) (su : U → List (List ℕ)
   pub begins : a.registration ≡ g.registration → Made sv su tv tu a g v u s → Run [] (seen sv su s)
   begins e h =
       subst (λ (y : Model). Run [] (link y s.ground (sv s.down) (su s.up))) (sym h.aircraft)
-        (subst (λ (y : Model). Run [] (link (new_model a) y (sv s.down) (su s.up))) (sym h.ground)
-          (subst (λ (y : List (List ℕ)). Run [] (link (new_model a) (new_model g) y (su s.up))) (sym h.down.1)
-            (subst (λ (y : List (List ℕ)). Run [] (link (new_model a) (new_model g) [] y)) (sym h.up.1) (begin h.good.0 h.good.1 e))))
+      (subst (λ (y : Model). Run [] (link (new_model a) y (sv s.down) (su s.up))) (sym h.ground)
+      (subst (λ (y : List (List ℕ)). Run [] (link (new_model a) (new_model g) y (su s.up))) (sym h.down.1)
+      (subst (λ (y : List (List ℕ)). Run [] (link (new_model a) (new_model g) [] y)) (sym h.up.1) (begin h.good.0 h.good.1 e))))
 
 -- the aircraft's settings are good, the ground's are not
 pub second_bad : {X : Type 0} (made : X → Type 0) (r : Result X LinkFault) (f : LinkFault) (a b g h : Settings) → IsErr r → IsErrAnd r (λ y. y ≡ f) → b ≡ a → Good b → h ≡ g →

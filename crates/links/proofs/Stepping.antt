@@ -1,6 +1,5 @@
 -- A call served is a step of a run. Assumes nothing.
 use Rattle.std.proofs.Common.{◌≡◌, ℕ, List, Ok, Err, Option, Some, None, Result, refl, sym, ap, subst, inl, inr}
-use Rattle.blocks.specs.Fields.{written}
 use Rattle.calls.specs.declared.fault.LinkFault.{LinkFault}
 use Rattle.calls.specs.declared.types.Heard.{Heard}
 use Rattle.calls.specs.declared.types.Ticked.{Ticked}
@@ -15,11 +14,10 @@ use Rattle.ends.specs.declared.types.Plan.TheVariants as plan
 use Rattle.ends.specs.Model.{Ways, Model}
 use Rattle.ends.specs.Sending.{plan_of}
 use Rattle.ends.specs.Calls.{PutsBoth, TakesBoth, Ticks, Sends, BlockPut, ResponsePut, Hears}
-use Rattle.paths.specs.Meaning.{Added, Left}
 use Rattle.law.specs.Links as law
-use Rattle.runs.specs.Links.{ways_of, Strings, Put, unput, put, Adds, Answers, Takes, Deed, submit, withdraw, tick, hear, collect, outcome, block_put, acknowledged, Serves, submits, withdraws, ticks, hears, collects, tells, Event, at, link, Step, at_air, at_ground}
+use Rattle.runs.specs.Links.{ways_of, Strings, Put, unput, put, Adds, Answers, Takes, Deed, submit, withdraw, tick, hear, collect, outcome, block_put, acknowledged, Serves, submits, withdraws, ticks, hears, collects, tells, at, link, Step, at_air, at_ground}
 use Rattle.links.specs.Served.{Served, IsDeed}
-use Rattle.links.specs.Links.{Sight, seen, side_of, Steps, ServedAt}
+use Rattle.links.specs.Links.{Sight, seen, Steps, ServedAt}
 
 module _ {V : Type 0} (strings : V → List (List ℕ)) (puts : V → List ℕ → V → Type 0) (w : Ways) (m m' : Model) (v v' : V) where
   -- a put, of the strings that wait
@@ -71,13 +69,17 @@ module _ {V U : Type 0} (sv : V → List (List ℕ)) (su : U → List (List ℕ)
   serves (call.Submit l t) (r, e, two, h, ev, eu, eb) = (submit l t.now r, (r, e, refl), same_paths _ ev eu (submits two h))
   serves (call.Withdraw n) (r, e, h, ev, eu, eb) = (withdraw n r, (r, e, refl), same_paths _ ev eu (withdraws h))
   serves (call.Tick time draw) (r, e, h, eu, eb) =
-      let x = ticks_seen sv puts w m m' v v' time draw r h in
-      (tick time draw r x.0 (block_put r m), (r, x.0, block_put r m, e, refl),
-        subst (λ (y : U). Serves w m (su u) (sv v) (tick time draw r x.0 (block_put r m)) m' (su y) (sv v')) (sym eu) (ticks x.1 x.2))
+      let x = ticks_seen sv puts w m m' v v' time draw r h in (
+        tick time draw r x.0 (block_put r m),
+        (r, x.0, block_put r m, e, refl),
+        subst (λ (y : U). Serves w m (su u) (sv v) (tick time draw r x.0 (block_put r m)) m' (su y) (sv v')) (sym eu) (ticks x.1 x.2),
+      )
   serves call.Hear (r, e, h, ev, eb) =
-      let x = hears_seen su takes w m m' u u' r h in
-      (hear r x.0 x.1 (acknowledged m m'), (r, x.0, x.1, acknowledged m m', e, refl),
-        subst (λ (y : V). Serves w m (su u) (sv v) (hear r x.0 x.1 (acknowledged m m')) m' (su u') (sv y)) (sym ev) (hears x.2))
+      let x = hears_seen su takes w m m' u u' r h in (
+        hear r x.0 x.1 (acknowledged m m'),
+        (r, x.0, x.1, acknowledged m m', e, refl),
+        subst (λ (y : V). Serves w m (su u) (sv v) (hear r x.0 x.1 (acknowledged m m')) m' (su u') (sv y)) (sym ev) (hears x.2),
+      )
   serves call.Collect (r, e, h, ev, eu) = (collect b r b', (r, e, refl), same_paths _ ev eu (collects h))
   serves call.Outcome (r, e, h, ev, eu, eb) = (outcome r, (r, e, refl), same_paths _ ev eu (tells h))
 

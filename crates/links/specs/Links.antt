@@ -1,6 +1,6 @@
 -- A link as its calls see it, and as the law knows it; what making one and serving a call do.
 -- Assumes nothing.
-use Rattle.std.specs.Prelude.{◌≡◌, ℕ, List, [], ◌∷◌, Ok, Err, Option, Result, ◌⊎◌}
+use Rattle.std.specs.Prelude.{◌≡◌, ℕ, List, [], Option, ◌⊎◌}
 use Rattle.paths.specs.Draining.{Drained}
 use Rattle.calls.specs.declared.fault.LinkFault.{LinkFault}
 use Rattle.calls.specs.declared.fault.LinkFault.TheVariants as fault
@@ -19,11 +19,18 @@ use Rattle.runs.specs.Links.{ways_of, Deed, Event, at, Step, Run, Accepted}
 use Rattle.runs.specs.Links as runs
 use Rattle.links.specs.declared.link.Link.{Link}
 use Rattle.links.specs.declared.station.Station.{Station}
+use Rattle.links.specs.declared.station.Stations.{Stations}
 use Rattle.links.specs.Served.{Served, IsDeed}
 
 -- the settings of an end: the registration, and what its station says
 abbrev pub settings_of : List ℕ → Station → Settings
 settings_of r s = record { registration = r; originator = s.originator; flight = s.flight; low = s.low; high = s.high; limit = s.limit; contact = s.contact }
+
+abbrev pub aircraft_of : Stations → Settings
+aircraft_of s = settings_of s.registration s.aircraft
+
+abbrev pub ground_of : Stations → Settings
+ground_of s = settings_of s.registration s.ground
 
 -- what the calls of a link depend on: the models of its ends, and what its paths are seen as
 pub record Sight (V U : Type 0) : Type 0 where

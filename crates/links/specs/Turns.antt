@@ -1,15 +1,17 @@
 -- Calls served in turn, by what serving one of them means, and the run that they make.
 -- Assumes nothing.
-use Rattle.std.specs.Prelude.{◌≡◌, ℕ, ◌+◌, ◌<◌, ◌≤◌, List, [], ◌∷◌, ◌++◌, length, Some, None, Ok, Err, Option, Result}
+use Rattle.std.specs.Prelude.{◌≡◌, ℕ, ◌+◌, ◌<◌, ◌≤◌, List, [], ◌∷◌, ◌++◌, length, None, Ok, Err, Result, ◌⊎◌}
 use Rattle.calls.specs.declared.fault.LinkFault.{LinkFault}
 use Rattle.calls.specs.declared.call.Side.{Side}
 use Rattle.calls.specs.declared.call.Call.{Call}
 use Rattle.calls.specs.declared.call.Answer.{Answer}
+use Rattle.calls.specs.declared.types.Settings.{Settings}
+use Rattle.calls.specs.Setting.{Good}
 use Rattle.calls.specs.Faults.{number_of, place_of}
 use Rattle.runs.specs.Links.{Deed, Event, at, Run, Onward}
 use Rattle.links.specs.declared.request.Request.{Request}
 use Rattle.links.specs.Served.{IsDeed}
-use Rattle.links.specs.Links.{Sight, seen, side_of}
+use Rattle.links.specs.Links.{Sight, seen, side_of, Unmade}
 
 module _ {S : Type 0} (serves : Side → S → List ℕ → Call → Answer → S → List ℕ → Type 0) where
   -- calls and their answers, one after the other
@@ -43,3 +45,8 @@ module _ {V U : Type 0} (sv : V → List (List ℕ)) (su : U → List (List ℕ)
   -- a run from a new link, by exactly these calls and answers
   abbrev pub Began : List Request → List Answer → List Answer → Sight V U → Type 0
   Began qs before after s = (ys : List Answer) × (h : List Event) × (after ≡ before ++ ys) × Logged [] qs ys h × Run h (seen sv su s)
+
+-- nothing was served: no link was made, or there is no room for so many answers
+abbrev pub NotBegun : ℕ → Settings → Settings → List Request → List Answer → List Answer → List ℕ → List ℕ → LinkFault → Type 0
+NotBegun most a g qs before after b b' f =
+    (after ≡ before) × (b' ≡ b) × (Unmade a g f ⊎ (Good a × Good g × (number_of f ≡ 1) × (place_of f ≡ None) × (most < length before + length qs)))

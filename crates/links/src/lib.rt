@@ -9,4 +9,4 @@ mod turns;
 
 pub use link::Link;
 pub use request::Request;
-pub use station::Station;
+pub use station::{Station, Stations};

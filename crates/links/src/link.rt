@@ -1,11 +1,11 @@
 // A link of two ends over two paths.
 ghost use Rattle.std.specs.Prelude.{◌≡◌, [], IfOk, MatchResult};
-ghost use Rattle.links.specs.Links.{sight, seen, settings_of, Made, Unmade, Steps, ServedAt};
+ghost use Rattle.links.specs.Links.{sight, seen, aircraft_of, ground_of, Made, Unmade, Steps, ServedAt};
 ghost use Rattle.links.specs.Laws.{LinkLaw};
 ghost use Rattle.runs.specs.Links.{Run};
 
 use crate::served::serve;
-use crate::station::Station;
+use crate::station::Stations;
 use calls::{Answer, Call, LinkFault, Side};
 use directions::{Downlink, Uplink};
 use ends::{End, Memory};
@@ -24,17 +24,16 @@ impl<P: AirPath + Drop, Q: AirPath + Drop> Link<P, Q> {
     // A new link of one registration, its paths emptied; or the first setting that is outside its limits, the aircraft's before the ground's.
     pub fn new(
         memory: (Memory, Memory),
-        registration: [u8; 7],
-        aircraft: Station,
-        ground: Station,
+        stations: Stations,
         mut down: P,
         mut up: Q,
     ) -> Result<Link<P, Q>, LinkFault>
-        ensures made { MatchResult result (λ l. Made P.AirPath.strings Q.AirPath.strings P.AirPath.takes Q.AirPath.takes (settings_of registration aircraft) (settings_of registration ground) (P.AirPath.sees down) (Q.AirPath.sees up) (sight P.AirPath.sees Q.AirPath.sees l)) (Unmade (settings_of registration aircraft) (settings_of registration ground)) }
+        ensures made { MatchResult result (λ l. Made P.AirPath.strings Q.AirPath.strings P.AirPath.takes Q.AirPath.takes (aircraft_of stations) (ground_of stations) (P.AirPath.sees down) (Q.AirPath.sees up) (sight P.AirPath.sees Q.AirPath.sees l)) (Unmade (aircraft_of stations) (ground_of stations)) }
         ensures run { IfOk result (λ l. Run [] (seen P.AirPath.strings Q.AirPath.strings (sight P.AirPath.sees Q.AirPath.sees l))) }
     {
-        let aircraft = End::new(memory.0, aircraft.with(registration))?;
-        let ground = End::new(memory.1, ground.with(registration))?;
+        let registration = stations.registration;
+        let aircraft = End::new(memory.0, stations.aircraft.with(registration))?;
+        let ground = End::new(memory.1, stations.ground.with(registration))?;
         drain(&mut down);
         drain(&mut up);
         Ok(Link {
@@ -52,7 +51,13 @@ impl<P: AirPath + Drop, Q: AirPath + Drop> Link<P, Q> {
         ensures law { LinkLaw }
     {
         match side {
-            Side::Aircraft => serve(&mut self.aircraft, &mut self.down, &mut self.up, call, buffer),
+            Side::Aircraft => serve(
+                &mut self.aircraft,
+                &mut self.down,
+                &mut self.up,
+                call,
+                buffer,
+            ),
             Side::Ground => serve(&mut self.ground, &mut self.up, &mut self.down, call, buffer),
         }
     }

@@ -34,3 +34,11 @@ impl Station {
         }
     }
 }
+
+// What the two ends of a link are told: the registration that they share, and the other settings of each.
+#[derive(Clone, Copy, PartialEq, Eq, Debug)]
+pub struct Stations {
+    pub registration: [u8; 7],
+    pub aircraft: Station,
+    pub ground: Station,
+}

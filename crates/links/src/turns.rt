@@ -1,12 +1,12 @@
 // Serving calls in turn.
-ghost use Rattle.std.specs.Prelude.{◌≡◌, [], IfOk};
-ghost use Rattle.links.specs.Links.{sight, ServedAt};
+ghost use Rattle.std.specs.Prelude.{◌≡◌, IfOk, IfErr};
+ghost use Rattle.links.specs.Links.{sight, aircraft_of, ground_of, ServedAt};
 ghost use Rattle.links.specs.Laws.{LinkLaw};
-ghost use Rattle.links.specs.Turns.{Served, GoesOn, Began};
+ghost use Rattle.links.specs.Turns.{Served, GoesOn, Began, NotBegun};
 
 use crate::link::Link;
 use crate::request::Request;
-use crate::station::Station;
+use crate::station::Stations;
 use arrayvec::ArrayVec;
 use calls::{Answer, LinkFault};
 use ends::Memory;
@@ -31,5 +31,24 @@ impl<P: AirPath + Drop, Q: AirPath + Drop> Link<P, Q> {
             answers.push(self.serve(request.side, request.call, buffer));
         }
         Ok(())
+    }
+
+    // Makes a new link and serves calls in turn; refused as the making of a link is, or where there is no room for all answers, and then no call is served.
+    pub fn run<const N: usize>(
+        memory: (Memory, Memory),
+        stations: Stations,
+        down: P,
+        up: Q,
+        requests: &[Request<'_>],
+        answers: &mut ArrayVec<Answer, N>,
+        buffer: &mut [u8],
+    ) -> Result<Link<P, Q>, LinkFault>
+        ensures run { IfOk result (λ l. Began P.AirPath.strings Q.AirPath.strings requests.now answers.old.items answers.new.items (sight P.AirPath.sees Q.AirPath.sees l)) }
+        ensures refused { IfErr result (NotBegun N (aircraft_of stations) (ground_of stations) requests.now answers.old.items answers.new.items buffer.old buffer.new) }
+        ensures law { LinkLaw }
+    {
+        let mut link = Link::new(memory, stations, down, up)?;
+        link.serve_all(requests, answers, buffer)?;
+        Ok(link)
     }
 }

@@ -1,7 +1,5 @@
-use Rattle.std.proofs.Common.{rules, refl, ◌≡◌, [], IfOk, MatchResult, ℕ, ◌+◌, ◌-◌, ◌*◌, ◌<◌, ◌≤◌, length, ◌/◌, ◌%◌, Bool, true, false, nat_eq, nat_lt, List, ◌∷◌, ◌++◌, slice_index_or, slice_set, bit_and, bit_or, Fits, w8, w32, w64, Bor, MutBor}
-use Rattle.links.specs.Links.{sight, seen, settings_of, Made, Unmade, Steps, ServedAt}
-use Rattle.links.specs.Laws.{LinkLaw}
-use Rattle.runs.specs.Links.{Run}
+use Rattle.std.proofs.Common.{refl}
+use Rattle.links.specs.Links.{aircraft_of, ground_of}
 use Rattle.links.proofs.Making.{second_bad, ready, makes, begins}
 use Rattle.links.proofs.link.Link.new.Goals as goal
 
@@ -12,9 +10,9 @@ returns-in_err-ground-clause-made g c =
 
 made_link : goal.returns-clause-made
 made_link g c =
-    makes g.P.AirPath.strings g.Q.AirPath.strings g.P.AirPath.takes g.Q.AirPath.takes (settings_of c.args.registration c.args.aircraft) (settings_of c.args.registration c.args.ground) (g.P.AirPath.sees c.args.down) (g.Q.AirPath.sees c.args.up) _ (ready _ _ _ c.with.ensures.value c.with.ensures.seven c.with.ensures.six c.in_ok-aircraft.ensures)
-      (ready _ _ _ c.with-2.ensures.value c.with-2.ensures.seven c.with-2.ensures.six c.in_ok-ground.ensures)
-      c.drain.ensures.exact c.drain.ensures.meaning c.drain-2.ensures.exact c.drain-2.ensures.meaning
+    makes g.P.AirPath.strings g.Q.AirPath.strings g.P.AirPath.takes g.Q.AirPath.takes (aircraft_of c.args.stations) (ground_of c.args.stations) (g.P.AirPath.sees c.args.down) (g.Q.AirPath.sees c.args.up) _ (ready _ _ _ c.with.ensures.value c.with.ensures.seven c.with.ensures.six c.in_ok-aircraft.ensures)
+    (ready _ _ _ c.with-2.ensures.value c.with-2.ensures.seven c.with-2.ensures.six c.in_ok-ground.ensures)
+    c.drain.ensures.exact c.drain.ensures.meaning c.drain-2.ensures.exact c.drain-2.ensures.meaning
 
 -- src/link.rt:25:5
 pub returns-clause-made : goal.returns-clause-made
@@ -22,4 +20,4 @@ returns-clause-made g c = made_link g c
 
 -- src/link.rt:25:5
 pub returns-clause-run : goal.returns-clause-run
-returns-clause-run g c = begins g.P.AirPath.strings g.Q.AirPath.strings g.P.AirPath.takes g.Q.AirPath.takes (settings_of c.args.registration c.args.aircraft) (settings_of c.args.registration c.args.ground) (g.P.AirPath.sees c.args.down) (g.Q.AirPath.sees c.args.up) _ refl (made_link g c)
+returns-clause-run g c = begins g.P.AirPath.strings g.Q.AirPath.strings g.P.AirPath.takes g.Q.AirPath.takes (aircraft_of c.args.stations) (ground_of c.args.stations) (g.P.AirPath.sees c.args.down) (g.Q.AirPath.sees c.args.up) _ refl (made_link g c)

@@ -1,7 +1,4 @@
-use Rattle.std.proofs.Common.{rules, refl, ◌≡◌, [], IfOk, MatchResult, ℕ, ◌+◌, ◌-◌, ◌*◌, ◌<◌, ◌≤◌, length, ◌/◌, ◌%◌, Bool, true, false, nat_eq, nat_lt, List, ◌∷◌, ◌++◌, slice_index_or, slice_set, bit_and, bit_or, Fits, w8, w32, w64, Bor, MutBor}
-use Rattle.links.specs.Links.{sight, seen, settings_of, Made, Unmade, Steps, ServedAt}
-use Rattle.links.specs.Laws.{LinkLaw}
-use Rattle.runs.specs.Links.{Run}
+use Rattle.std.proofs.Common.{refl}
 use Rattle.calls.specs.declared.call.Side.TheVariants.{Aircraft, Ground}
 use Rattle.links.proofs.Stepping.{steps_at}
 use Rattle.links.proofs.Making.{link_law}

@@ -1,7 +1,5 @@
-use Rattle.std.proofs.Common.{rules, refl, sym, ap, ◌∙◌, subst, arith, append_assoc, append-nil, ◌≡◌, [], IfOk, ℕ, ◌+◌, ◌-◌, ◌*◌, ◌<◌, ◌≤◌, length, ◌/◌, ◌%◌, Bool, true, false, nat_eq, nat_lt, List, ◌∷◌, ◌++◌, slice_index_or, slice_set, bit_and, bit_or, Fits, w8, w32, w64, Bor, MutBor}
+use Rattle.std.proofs.Common.{refl, sym, ap, ◌∙◌, arith, append_assoc, append-nil, [], ℕ, ◌+◌, List, ◌∷◌, ◌++◌}
 use Rattle.links.specs.Links.{sight, ServedAt}
-use Rattle.links.specs.Laws.{LinkLaw}
-use Rattle.links.specs.Turns.{Served, GoesOn, Began}
 use Rattle.std.proofs.lemmas.List.{length_push}
 use Rattle.calls.specs.declared.call.Answer.{Answer}
 use Rattle.links.specs.Turns.{InTurn, none_served}
@@ -22,11 +20,12 @@ loop-request-init g c = ([], sym (append-nil c.args.answers.now.items), refl, no
 -- src/turns.rt:30:9
 pub loop-request-preserved : goal.loop-request-preserved
 loop-request-preserved g c =
-    let i = c.loop-request.invariant in
-    (i.0 ++ c.serve.result ∷ [],
+    let i = c.loop-request.invariant in (
+      i.0 ++ c.serve.result ∷ [],
       c.push.ensures.items ∙ ap (λ (z : List Answer). z ++ c.serve.result ∷ []) i.1 ∙ append_assoc c.args.answers.now.items i.0 (c.serve.result ∷ []),
       length_push i.0 c.serve.result ∙ ap (λ (n : ℕ). n + 1) i.2,
-      turn_more _ _ _ _ _ _ _ c.args.requests.now i.0 c.loop-request.request-index _ _ c.loop-request-test.true i.3 c.serve.ensures.exact)
+      turn_more _ _ _ _ _ _ _ c.args.requests.now i.0 c.loop-request.request-index _ _ c.loop-request-test.true i.3 c.serve.ensures.exact,
+    )
 
 all_served : (g : given.Over) (c : goal.After-loop-request g) → InTurn (ServedAt g.P.AirPath.strings g.Q.AirPath.strings g.P.AirPath.puts g.P.AirPath.takes g.Q.AirPath.puts g.Q.AirPath.takes)
     (sight g.P.AirPath.sees g.Q.AirPath.sees c.args.self.now) c.args.buffer.now c.args.requests.now c.loop-request.invariant.0 (sight g.P.AirPath.sees g.Q.AirPath.sees c.loop-request.self) c.loop-request.buffer

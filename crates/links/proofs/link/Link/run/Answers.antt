@@ -1,0 +1,12 @@
+use Rattle.std.proofs.Common.{[]}
+use Rattle.links.proofs.Making.{link_law}
+use Rattle.links.proofs.link.Link.run.Goals as goal
+
+pub returns-in_err-link-clause-law : goal.returns-in_err-link-clause-law
+returns-in_err-link-clause-law g c = link_law
+
+pub returns-clause-run : goal.returns-clause-run
+returns-clause-run g c =
+    let served = c.in_ok-serve_all.ensures.run in
+    let run = served.2 [] c.in_ok-link.ensures.run in
+    (served.0, run.0, served.1, run.2, run.1)
