@@ -34,19 +34,13 @@ impl Splitter {
     }
 
     // Takes octets up to the first line feed, and answers how many with it; none where all are taken and the line goes on.
+    #[tactic(auto, using(crate::proofs::Splitting::fed_at))]
     pub fn feed(&mut self, octets: &[u8]) -> Option<usize>
         ensures { Fed self.old octets.now self.new result }
     {
-        match line_feed(octets) {
-            Some(end) => {
-                self.keep(&octets[..end]);
-                Some(end + 1)
-            }
-            None => {
-                self.keep(octets);
-                None
-            }
-        }
+        let end = line_feed(octets);
+        self.keep(&octets[..end.unwrap_or(octets.len())]);
+        end.map(|end| end + 1)
     }
 
     // The line so far; none if it is over 1,024 octets long.
