@@ -13,7 +13,7 @@ use arrayvec::ArrayVec;
 #[derive(Clone, Copy, PartialEq, Eq, Debug)]
 pub struct Downlink;
 
-// The value of a digit, given with its parity.
+// The value of a digit, given with its parity. This crate does not rest on octets, so the parity is taken off here.
 fn digit(octet: u8) -> u16
     ensures value { result ≡ octet % 128 - 48 }
     ensures small { result < 80 }
@@ -51,6 +51,7 @@ impl Direction for Downlink {
     }
 
     fn opening_allows(index: usize, before: u8, character: u8) -> bool {
+        // A table of the opening's places, and the one that holds them.
         match index {
             0 => is_letter(character),
             1 => is_digit(character),
