@@ -57,7 +57,7 @@ impl AnswerLine {
         ensures sized { length octets.now ≡ N }
     {
         self.add(b",");
-        // A loop: with the array's `map` it was tried, and that the result is the list of the characters stayed open.
+        // A loop: with the array's `map` it was tried, and its demand that N is below 2 ^ 63 stayed open.
         for octet in octets {
             self.add(&[character_of(*octet)]);
         }
