@@ -51,7 +51,7 @@ impl Direction for Downlink {
     }
 
     fn opening_allows(index: usize, before: u8, character: u8) -> bool {
-        // A table of the opening's places, and the one that holds them.
+        // By number: this is the one table of what may stand at each place of the opening.
         match index {
             0 => is_letter(character),
             1 => is_digit(character),
