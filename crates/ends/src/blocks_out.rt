@@ -53,6 +53,7 @@ fn send<D: Direction, P: AirPath>(block: &Block<'_>, path: &mut P) -> Result<(),
 }
 
 // The text of a message's block with an index: its opening, and its characters.
+// Text and index come apart, here and below: the text is the message's, and the index says which block of it is meant.
 fn whole_text<O: Direction>(
     settings: &Settings,
     number: u64,
@@ -72,6 +73,7 @@ fn whole_text<O: Direction>(
 
 impl<O: Direction<Other = I>, I: Direction<Other = O>> End<O, I> {
     // Sends the block with an index, of a message and its text, under an identifier.
+    // Cell and text come apart: a store hands out the one by value, and lends the other.
     fn send_block<P: AirPath>(
         &self,
         cell: Cell,

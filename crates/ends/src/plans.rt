@@ -63,7 +63,7 @@ impl<O: Direction<Other = I>, I: Direction<Other = O>> End<O, I> {
     {
         self.sender
             .put
-            .map_or(O::first(), |identifier| O::following(identifier))
+            .map_or(O::first(), O::following)
     }
 
     // A new block's identifier: the next, or the one after that where one is passed over.
@@ -91,10 +91,6 @@ impl<O: Direction<Other = I>, I: Direction<Other = O>> End<O, I> {
     pub(crate) fn owed(&self) -> Option<Identifier>
         ensures { named result ≡ owed_by (model self.now).inbox }
     {
-        if self.receiver.owed {
-            self.receiver.accepted
-        } else {
-            None
-        }
+        self.receiver.accepted.filter(|_| self.receiver.owed)
     }
 }

@@ -52,6 +52,7 @@ pub enum Plan {
 }
 
 // A message block as it is heard: the octets of its text, and the characters that they are.
+// Both: characters need memory of their own, and the place of a block is read from its octets.
 #[derive(Clone, Copy)]
 pub(crate) struct HeardBlock<'a> {
     pub(crate) identifier: Identifier,
