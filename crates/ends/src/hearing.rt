@@ -9,9 +9,12 @@ ghost use Rattle.ends.specs.Steps.{part_with, PartHeard};
 ghost use Rattle.ends.specs.Model.{ways};
 
 use crate::end::{End, Receiver};
-use crate::types::{HeardBlock, PartHead};
+use crate::types::{HeardBlock, MOST_BLOCKS, PartHead};
 use calls::{Heard, LinkFault};
 use directions::{Direction, Identifier, Joining};
+
+// The most messages that wait.
+const MOST_WAITING: usize = 4;
 
 impl Receiver {
     // Makes an acknowledgment owed.
@@ -29,9 +32,7 @@ impl Receiver {
         // sixteen blocks always fit
         let _ = self.text.append(more);
         if block.last {
-            self.waiting
-                .push(head.label, self.text.as_slice())
-                .unwrap();
+            self.waiting.push(head.label, self.text.as_slice()).unwrap();
             self.part = None;
         } else {
             self.part = Some(head);
@@ -44,7 +45,7 @@ impl Receiver {
     fn is_crowded(&self, last: bool) -> bool
         ensures { result ≡ (last && nat_le 4 (length (held self.now.waiting))) }
     {
-        last && 4 <= self.waiting.len()
+        last && MOST_WAITING <= self.waiting.len()
     }
 }
 
@@ -89,7 +90,7 @@ impl<O: Direction<Other = I>, I: Direction<Other = O>> End<O, I> {
         ensures { PartHeard (model self.old) (block_of block.entry) (part_with (ways O.Direction I.Direction) (block_of block.entry) (part_of continued (octets_of self.old.receiver.text))) result (model self.new) }
     {
         let (label, blocks) = continued.map_or((block.label, 0), |part| (part.label, part.blocks));
-        if 16 <= blocks {
+        if MOST_BLOCKS <= blocks {
             return Err(LinkFault::Seventeenth);
         }
         if self.receiver.is_crowded(block.last) {

@@ -58,12 +58,13 @@ impl<O: Direction<Other = I>, I: Direction<Other = O>> End<O, I> {
     }
 
     // The identifier after the one last put, the ring's first if none was.
+    // A closure: the check does not cover `O::following` passed by its name.
     fn following_identifier(&self) -> Identifier
         ensures { result.0 ≡ after O.Ring.ring (model self.now).outbox.put }
     {
         self.sender
             .put
-            .map_or(O::first(), O::following)
+            .map_or(O::first(), |identifier| O::following(identifier))
     }
 
     // A new block's identifier: the next, or the one after that where one is passed over.
