@@ -100,7 +100,7 @@ ROWS = [
     ('3 a while loop', lambda: lines(r'^\s*while .*')),
     ('3 a step written out for each element', lambda: lines(r'let \[a, b, c.*\] = \*\w+;')),
     ('3 a loop that only copies or folds', lambda: lines(r'\bfor (octet|x) in \w+ \{')),
-    ('3 a range test by two comparisons', lambda: lines(r'[\w\']+ <= \w+(\.0)? && \w+(\.\w+)? <=? [\w\'().]+')),
+    ('3 a range test by two comparisons', lambda: lines(r'[\w\']+ <= \w+(\.0)? && \w+(\.\w+)? <=? [\w\'().]+|\b(\w+) < [\w\'().]+ \|\| \3 > [\w\'().]+')),
     ('4 an arm for None', lambda: lines(r'^\s*None => .*')),
     ('4 let-else that hands None on, or a refusal', lambda: lines(r'let Some\(.*\) = .* else \{\s*return (None|Err\(.*\));')),
     ('4 an arm that answers false', lambda: lines(r'=> false,')),

@@ -1,5 +1,4 @@
 // What holds of all answers.
-ghost use Rattle.std.specs.Prelude.{◌≡◌};
 ghost use Rattle.answers.specs.Answered.{AnswersApart};
 ghost use Rattle.answers.specs.Laws.{PrintedApart};
 

@@ -12,7 +12,7 @@ use Rattle.blocks.specs.declared.fault.BlockFault.TheVariants.{Rest}
 use Rattle.blocks.specs.declared.parsed.HeadRead.{HeadRead}
 use Rattle.blocks.specs.declared.parsed.RestRead.{RestRead}
 use Rattle.blocks.specs.Fields as fields
-use Rattle.blocks.specs.Fields.{Fields, response, message, fields_read, written, enclosed, laid, named}
+use Rattle.blocks.specs.Fields.{Fields, response, message, fields_read, written, enclosed, named}
 use Rattle.blocks.specs.Faults.{number_of, place_of}
 use Rattle.blocks.specs.Legal.{Way, Sound}
 use Rattle.blocks.specs.Reading.{Refusal, FirstUnlike, Like, ReadAs, Parts}

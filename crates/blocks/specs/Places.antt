@@ -94,12 +94,13 @@ pub record RestIs (s : List ℕ) (r : RestRead) : Type 0 where
   pub last : r.last ≡ (ch s (length s - 4) == 3)
   pub text : r.text.now ≡ take (length s - 4 - 14) (drop 14 s)
 
--- what reading the rest answers: its parts, or the first place that breaks its rule, which is 13 where no block has that length
+-- the first place of the rest that breaks its rule, which is 13 where no block has that length
 abbrev pub RestBroken : Way → Bool → List ℕ → ℕ → Type 0
 RestBroken w response s p =
     ((possible w response (length s) ≡ true) × (p < length s - 3) × BrokenAt w (length s) s 13 p) ⊎
     ((possible w response (length s) ≡ false) × (p ≡ 13))
 
+-- what reading the rest answers: its parts, or the first place that breaks its rule
 abbrev pub RestTested : Way → Bool → List ℕ → Result RestRead BlockFault → Type 0
 RestTested w response s (Ok r) = (possible w response (length s) ≡ true) × Kept w (length s) (ch s) 13 (length s - 3) × RestIs s r
 RestTested w response s (Err f) = (p : ℕ) × (f ≡ Rest p) × RestBroken w response s p

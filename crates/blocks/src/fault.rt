@@ -1,5 +1,6 @@
-// Why a string is no block, or why fields make none.
+// Why a string is no block, or why fields make none; and the number and the place of a refusal.
 ghost use Rattle.std.specs.Prelude.{◌≡◌};
+ghost use Rattle.blocks.specs.Faults.{number_of, place_of};
 
 use thiserror::Error;
 
@@ -23,4 +24,36 @@ pub enum BlockFault {
     // a character from place 13 on
     #[error("the rest breaks its rule at place {place}")]
     Rest { place: usize },
+}
+
+impl BlockFault {
+    // The refusal's number.
+    pub fn number(&self) -> u8
+        ensures { result ≡ number_of self.now }
+    {
+        match self {
+            BlockFault::Buffer => 1,
+            BlockFault::Length { .. } => 3,
+            BlockFault::Parity { .. } => 4,
+            BlockFault::Delimiter { .. } => 5,
+            BlockFault::Check { .. } => 6,
+            BlockFault::Head { .. } => 7,
+            BlockFault::Rest { .. } => 8,
+        }
+    }
+
+    // Its place in the string; a short buffer has none.
+    pub fn place(&self) -> Option<usize>
+        ensures { result ≡ place_of self.now }
+    {
+        match self {
+            BlockFault::Buffer => None,
+            BlockFault::Length { place }
+            | BlockFault::Parity { place }
+            | BlockFault::Delimiter { place }
+            | BlockFault::Check { place }
+            | BlockFault::Head { place }
+            | BlockFault::Rest { place } => Some(*place),
+        }
+    }
 }

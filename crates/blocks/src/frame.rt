@@ -33,7 +33,7 @@ impl<'a> Frame<'a> {
         ensures { MatchResult result (λ frame. frame.string.now ≡ string.now) (λ fault. (w : Way) → Refusal w string.now (number_of fault) (place_of fault)) }
     {
         let length = string.len();
-        if length < 17 || length > 238 {
+        if !(17..=238).contains(&length) {
             return Err(BlockFault::Length { place: length });
         }
         if let Some(place) = first_even(string) {

@@ -6,7 +6,6 @@ mod characters;
 mod fault;
 mod frame;
 mod heading;
-mod numbers;
 mod parsed;
 mod parts;
 mod reading;

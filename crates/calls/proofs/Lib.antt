@@ -1,1 +1,2 @@
 pub mod Addresses
+pub mod Flights

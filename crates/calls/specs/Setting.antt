@@ -1,7 +1,6 @@
 -- Which settings are within their limits.
 -- Assumes nothing.
 use Rattle.std.specs.Prelude.{◌≡◌, ℕ, ◌<◌, Bool, true, false, ◌&&◌, List, nat_le}
-use Rattle.std.specs.List.{list_all}
 use Rattle.directions.specs.TextRules.{is_letter, is_letter_or_digit}
 use Rattle.blocks.specs.Legal.{at, address_allows}
 use Rattle.calls.specs.declared.types.Settings.{Settings}
@@ -14,9 +13,10 @@ address_good a =
     address_allows 0 50 (at a 0) && (address_allows 1 (at a 0) (at a 1) && (address_allows 2 (at a 1) (at a 2) && (address_allows 3 (at a 2) (at a 3) &&
     (address_allows 4 (at a 3) (at a 4) && (address_allows 5 (at a 4) (at a 5) && address_allows 6 (at a 5) (at a 6))))))
 
--- letters or digits
+-- six letters or digits
 abbrev pub flight_good : List ℕ → Bool
-flight_good f = list_all is_letter_or_digit f
+flight_good f =
+    is_letter_or_digit (at f 0) && (is_letter_or_digit (at f 1) && (is_letter_or_digit (at f 2) && (is_letter_or_digit (at f 3) && (is_letter_or_digit (at f 4) && is_letter_or_digit (at f 5)))))
 
 -- the number of a setting
 abbrev pub setting_number : Setting → ℕ

@@ -10,10 +10,10 @@ use thiserror::Error;
 #[derive(Clone, Copy, PartialEq, Eq, Debug, Error)]
 pub enum LinkFault {
     // what the path below refuses
-    #[error("the path refuses: {0:?}")]
+    #[error("the path refuses: {0}")]
     Air(PathFault),
     // the string heard is no block, or the fields of the block to be sent are not sound
-    #[error("no block: {0:?}")]
+    #[error("no block: {0}")]
     Block(BlockFault),
     #[error("the buffer is too short for a collected message")]
     Buffer,

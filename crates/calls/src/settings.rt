@@ -57,6 +57,7 @@ impl Settings {
     }
 
     // The first of some settings that is outside its limits, if one is.
+    // A function of its own: over the constant itself neither `search` nor `grind` proves what `find` answers.
     fn first_bad_of(&self, settings: &[Setting]) -> Option<Setting>
         ensures { result ≡ find (λ k. not (setting_good self.now k)) settings.now }
     {

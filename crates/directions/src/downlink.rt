@@ -13,7 +13,7 @@ use arrayvec::ArrayVec;
 #[derive(Clone, Copy, PartialEq, Eq, Debug)]
 pub struct Downlink;
 
-// The value of a digit, given with its parity.
+// The value of a digit, given with its parity. This crate does not rest on octets, so parity is taken off by hand, here and in `mark`.
 fn digit(octet: u8) -> u16
     ensures value { result ≡ octet % 128 - 48 }
     ensures small { result < 80 }
@@ -51,6 +51,7 @@ impl Direction for Downlink {
     }
 
     fn opening_allows(index: usize, before: u8, character: u8) -> bool {
+        // By number: this is the one table of what may stand at each place of the opening.
         match index {
             0 => is_letter(character),
             1 => is_digit(character),
@@ -62,20 +63,17 @@ impl Direction for Downlink {
 
     fn opening(originator: u8, flight: &[u8; 6], number: u64, index: u8) -> ArrayVec<u8, 10> {
         let shown = (number.saturating_sub(1) % 99 + 1) as u8;
-        // Named one by one: an array's literal takes no slice, and a vector filled step by step is no plainer.
-        let [a, b, c, d, e, f] = *flight;
-        ArrayVec::from([
-            originator,
-            b'0' + shown / 10,
-            b'0' + shown % 10,
-            b'A' + index % 16,
-            a,
-            b,
-            c,
-            d,
-            e,
-            f,
-        ])
+        let mut opening = ArrayVec::new();
+        opening
+            .try_extend_from_slice(&[
+                originator,
+                b'0' + shown / 10,
+                b'0' + shown % 10,
+                b'A' + index % 16,
+            ])
+            .unwrap();
+        opening.try_extend_from_slice(flight).unwrap();
+        opening
     }
 
     fn mark(octets: &[u8]) -> Mark {

@@ -1,7 +1,6 @@
 // The two directions of a link: a ring of identifiers each, and a text rule added to it.
 #![tactic(auto)]
 
-ghost use Rattle.std.specs.Prelude.{◌≡◌};
 ghost use Rattle.directions.specs.RingFacts.{RingFacts, NeverJoined, Turns};
 
 mod classes;

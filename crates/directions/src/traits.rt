@@ -50,7 +50,7 @@ pub trait Direction: Ring {
         ensures { result ≡ text.opening };
 
     // Whether a character may stand at an index of that opening, after the character before it.
-    // Three values and no struct: callers find them apart, and would build it for this one call.
+    // Three values and no struct: a scan finds them one by one, and each caller passes them straight on.
     fn opening_allows(index: usize, before: u8, character: u8) -> bool
         ensures { result ≡ text.allows index before character };
 

@@ -5,7 +5,7 @@ use ends::{End, Memory};
 use std::alloc::Global;
 use std::test::Fail;
 
-pub(crate) const GOOD: Settings = Settings {
+const GOOD: Settings = Settings {
     registration: *b"..AB123",
     originator: b'M',
     flight: *b"ZZ0001",

@@ -91,11 +91,12 @@ fn a_block_goes_out_again_when_due(rt: HostRuntime) -> Result<(), Fail> {
     sending.puts(&rt, 1_103, 0, &FIRST)?;
     sending.rests(&rt, 6_102);
     sending.puts(&rt, 6_103, 0, &FIRST)?;
-    let Sending { mut end, mut path } = sending;
-    assert_eq!(rt; refusal(end.tick(6_102, 0, &mut path)), Some(14));
+    let answer = sending.end.tick(6_102, 0, &mut sending.path);
+    assert_eq!(rt; refusal(answer), Some(14));
     let late = 4_611_686_018_427_387_905;
-    assert_eq!(rt; refusal(end.tick(late, 0, &mut path)), Some(14));
-    assert_eq!(rt; path.waiting(), 0);
+    let answer = sending.end.tick(late, 0, &mut sending.path);
+    assert_eq!(rt; refusal(answer), Some(14));
+    assert_eq!(rt; sending.path.waiting(), 0);
     Ok(())
 }
 

@@ -18,6 +18,12 @@ use directions::{Direction, Identifier};
 use paths::AirPath;
 use writing::write;
 
+// The octets of the longest block.
+const LONGEST_BLOCK: usize = 238;
+
+// The characters of the longest text of a block.
+const LONGEST_TEXT: usize = 220;
+
 // How many blocks a text of a length makes; an empty text is one.
 pub(crate) fn block_count<O: Direction>(length: usize) -> usize
     ensures { result ≡ block_count O.Direction.text.room length }
@@ -47,19 +53,20 @@ fn send<D: Direction, P: AirPath>(block: &Block<'_>, path: &mut P) -> Result<(),
     ensures { Sent (PutsBoth P.AirPath.strings P.AirPath.puts) (way D.Direction D.Other.Ring.ring) (fields_given block.now) result (P.AirPath.sees path.old) (P.AirPath.sees path.new) }
 {
     // A buffer and a length: `write` fills a slice that its caller holds.
-    let mut buffer = [0u8; 238];
+    let mut buffer = [0u8; LONGEST_BLOCK];
     let n = write::<D>(block, &mut buffer)?;
     path.put(&buffer[..n]).unwrap();
     Ok(())
 }
 
 // The text of a message's block with an index: its opening, and its characters.
+// Text and index come apart, here and below: the text is the message's, and the index says which block of it is meant.
 fn whole_text<O: Direction>(
     settings: &Settings,
     number: u64,
     index: u8,
     text: &[u8],
-) -> ArrayVec<u8, 220>
+) -> ArrayVec<u8, LONGEST_TEXT>
     ensures { result.items ≡ O.Direction.text.opener settings.now.originator settings.now.flight number index ++ block_text O.Direction.text.room text.now index }
 {
     let opening = O::opening(settings.originator, &settings.flight, number, index);
@@ -73,6 +80,7 @@ fn whole_text<O: Direction>(
 
 impl<O: Direction<Other = I>, I: Direction<Other = O>> End<O, I> {
     // Sends the block with an index, of a message and its text, under an identifier.
+    // Cell and text come apart: a store hands out the one by value, and lends the other.
     fn send_block<P: AirPath>(
         &self,
         cell: Cell,

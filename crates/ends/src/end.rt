@@ -19,6 +19,7 @@ pub(crate) struct Sender {
 }
 
 // The receiving half: the identifier last accepted, whether an acknowledgment is owed, the open part and its text, the messages that wait.
+// `owed` stands beside `accepted`, which is needed too where nothing is owed; `text` beside `part`, as its memory is reserved once.
 #[derive(Drop)]
 pub(crate) struct Receiver {
     pub(crate) accepted: Option<Identifier>,

@@ -1,10 +1,11 @@
-// Finding an outgoing message.
+// Finding an outgoing message, and giving it another stage.
 ghost use Rattle.std.specs.Prelude.{◌≡◌, Bool};
 ghost use Rattle.stores.specs.Held.{held};
-ghost use Rattle.ends.specs.Sending.{place_where, current_place, place_of_number};
+ghost use Rattle.ends.specs.Ends.{outbox_of};
+ghost use Rattle.ends.specs.Sending.{place_where, current_place, place_of_number, with_cells, stage_at};
 
 use crate::end::Sender;
-use crate::types::Cell;
+use crate::types::{Cell, Stage};
 
 // An outgoing message: its place from the oldest, its cell, and the length of its text.
 #[derive(Clone, Copy)]
@@ -54,5 +55,14 @@ impl Sender {
         ensures { FindsAny (place_of_number number (held self.now.cells)) (held self.now.cells) result }
     {
         self.first(|cell| cell.number == number && cell.stage.is_unsettled())
+    }
+
+    // Gives the message at a place another stage; where there is none, nothing.
+    pub(crate) fn set_stage(&mut self, place: usize, stage: Stage)
+        ensures { outbox_of self.new ≡ with_cells (outbox_of self.old) (stage_at place stage (outbox_of self.old).cells) }
+    {
+        if let Some(cell) = self.cells.record(place) {
+            self.cells.set_record(place, Cell { stage, ..cell });
+        }
     }
 }

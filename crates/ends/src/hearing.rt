@@ -1,5 +1,5 @@
 // What a block heard is to the receiving half.
-ghost use Rattle.std.specs.Prelude.{◌≡◌, ◌<◌, true, ◌&&◌, [], cond, length, drop, nat_le};
+ghost use Rattle.std.specs.Prelude.{◌≡◌, ◌<◌, true, ◌&&◌, length, drop, nat_le};
 ghost use Rattle.stores.specs.Held.{stored, held};
 ghost use Rattle.stores.specs.Texts.{octets_of};
 ghost use Rattle.ends.specs.Ends.{model, inbox_of, part_of, block_of};
@@ -9,9 +9,12 @@ ghost use Rattle.ends.specs.Steps.{part_with, PartHeard};
 ghost use Rattle.ends.specs.Model.{ways};
 
 use crate::end::{End, Receiver};
-use crate::types::{HeardBlock, PartHead};
+use crate::types::{HeardBlock, MOST_BLOCKS, PartHead};
 use calls::{Heard, LinkFault};
 use directions::{Direction, Identifier, Joining};
+
+// The most messages that wait.
+const MOST_WAITING: usize = 4;
 
 impl Receiver {
     // Makes an acknowledgment owed.
@@ -21,17 +24,15 @@ impl Receiver {
         self.owed = true;
     }
 
-    // Accepts a block with its characters, as the newest of a part with a head: the part opens or goes on, and completes and waits if the block is a last one.
-    fn accept(&mut self, block: HeardBlock<'_>, opens: bool, head: PartHead, more: &[u8])
+    // Accepts a block with its characters, as the newest of a part with a head, behind the part's text: the part goes on, and completes and waits if the block is a last one.
+    fn accept(&mut self, block: HeardBlock<'_>, head: PartHead, more: &[u8])
         requires { block.last ≡ true → length (held self.old.waiting) < 4 }
-        ensures { inbox_of self.new ≡ accepted_part (inbox_of self.old) (block_of block.entry) (stored head (lengthened (cond opens [] (octets_of self.old.text)) more.now)) }
+        ensures { inbox_of self.new ≡ accepted_part (inbox_of self.old) (block_of block.entry) (stored head (lengthened (octets_of self.old.text) more.now)) }
     {
-        if opens {
-            self.text.clear();
-        }
+        // sixteen blocks always fit
         let _ = self.text.append(more);
         if block.last {
-            let _ = self.waiting.push(head.label, self.text.as_slice());
+            self.waiting.push(head.label, self.text.as_slice()).unwrap();
             self.part = None;
         } else {
             self.part = Some(head);
@@ -44,7 +45,7 @@ impl Receiver {
     fn is_crowded(&self, last: bool) -> bool
         ensures { result ≡ (last && nat_le 4 (length (held self.now.waiting))) }
     {
-        last && 4 <= self.waiting.len()
+        last && MOST_WAITING <= self.waiting.len()
     }
 }
 
@@ -89,11 +90,14 @@ impl<O: Direction<Other = I>, I: Direction<Other = O>> End<O, I> {
         ensures { PartHeard (model self.old) (block_of block.entry) (part_with (ways O.Direction I.Direction) (block_of block.entry) (part_of continued (octets_of self.old.receiver.text))) result (model self.new) }
     {
         let (label, blocks) = continued.map_or((block.label, 0), |part| (part.label, part.blocks));
-        if 16 <= blocks {
+        if MOST_BLOCKS <= blocks {
             return Err(LinkFault::Seventeenth);
         }
         if self.receiver.is_crowded(block.last) {
             return Err(LinkFault::Crowded);
+        }
+        if continued.is_none() {
+            self.receiver.text.clear();
         }
         let head = PartHead {
             label,
@@ -101,7 +105,7 @@ impl<O: Direction<Other = I>, I: Direction<Other = O>> End<O, I> {
             blocks: blocks + 1,
         };
         let more = message_part::<I>(block.text);
-        self.receiver.accept(block, continued.is_none(), head, more);
+        self.receiver.accept(block, head, more);
         Ok(if block.last {
             Heard::Complete
         } else {
@@ -119,11 +123,10 @@ impl<O: Direction<Other = I>, I: Direction<Other = O>> End<O, I> {
         }
         match self.joining(block) {
             Joining::Opens => self.hear_part(block, None),
-            Joining::Continues => {
-                let part = self.receiver.part.ok_or(LinkFault::Stray)?;
-                self.hear_part(block, Some(part))
+            Joining::Continues if self.receiver.part.is_some() => {
+                self.hear_part(block, self.receiver.part)
             }
-            Joining::Neither => Err(LinkFault::Stray),
+            Joining::Continues | Joining::Neither => Err(LinkFault::Stray),
         }
     }
 }

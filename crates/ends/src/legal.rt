@@ -3,6 +3,7 @@ ghost use Rattle.std.specs.Prelude.{◌≡◌, ◌*◌, ◌<◌, false, length, 
 ghost use Rattle.blocks.specs.Legal.{at, is_label, is_text};
 ghost use Rattle.ends.specs.Calls.{LabelGood, TextGood, LegalWithin, IllegalWithin};
 
+use crate::types::MOST_BLOCKS;
 use blocks::{is_label, is_text};
 use calls::Label;
 use directions::Direction;
@@ -29,7 +30,7 @@ pub(crate) fn illegal_place<D: Direction>(label: Label, text: &[u8]) -> Option<u
     if let Some(place) = illegal_label(label) {
         return Some(place);
     }
-    let most = 16 * D::room();
+    let most = usize::from(MOST_BLOCKS) * D::room();
     if most < text.len() {
         return Some(2 + most);
     }

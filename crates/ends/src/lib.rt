@@ -19,7 +19,7 @@ mod ticks;
 mod types;
 mod withdraws;
 
-pub use calls::{Heard, Label, LinkFault, Outcome, Settings, Ticked};
+pub use calls::{Heard, Label, LinkFault, Outcome, Setting, Settings, Ticked};
 pub use end::End;
 pub use memory::Memory;
 pub use types::{Cell, Clock, Current, PartHead, Plan, Stage};

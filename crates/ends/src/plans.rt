@@ -58,6 +58,7 @@ impl<O: Direction<Other = I>, I: Direction<Other = O>> End<O, I> {
     }
 
     // The identifier after the one last put, the ring's first if none was.
+    // A closure: the check does not cover `O::following` passed by its name.
     fn following_identifier(&self) -> Identifier
         ensures { result.0 ≡ after O.Ring.ring (model self.now).outbox.put }
     {
@@ -91,10 +92,6 @@ impl<O: Direction<Other = I>, I: Direction<Other = O>> End<O, I> {
     pub(crate) fn owed(&self) -> Option<Identifier>
         ensures { named result ≡ owed_by (model self.now).inbox }
     {
-        if self.receiver.owed {
-            self.receiver.accepted
-        } else {
-            None
-        }
+        self.receiver.accepted.filter(|_| self.receiver.owed)
     }
 }

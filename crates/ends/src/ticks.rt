@@ -1,12 +1,12 @@
 // Ticks: what an end sends at a time.
 ghost use Rattle.std.specs.Prelude.{◌≡◌, ◌^◌, ◌≤◌, true, false, MatchOption};
-ghost use Rattle.ends.specs.Ends.{model, outbox_of};
-ghost use Rattle.ends.specs.Sending.{sent_fresh, sent_again, sent_response, with_cells, stage_at, tried};
+ghost use Rattle.ends.specs.Ends.{model};
+ghost use Rattle.ends.specs.Sending.{sent_fresh, sent_again, sent_response, tried};
 ghost use Rattle.ends.specs.Calls.{PutsBoth, Ticks, on_time};
 ghost use Rattle.ends.specs.Model.{ways};
 
-use crate::end::{End, Sender};
-use crate::types::{Cell, Clock, Current, Plan, Stage};
+use crate::end::End;
+use crate::types::{Clock, Current, Plan, Stage};
 use calls::{LinkFault, Ticked};
 use directions::Direction;
 use paths::AirPath;
@@ -20,17 +20,6 @@ struct Moment {
     time: u64,
     draw: u64,
     ghost within: { time ≤ 2 ^ 62 },
-}
-
-impl Sender {
-    // Gives the message at a place another stage; where there is none, nothing.
-    pub(crate) fn set_stage(&mut self, place: usize, stage: Stage)
-        ensures { outbox_of self.new ≡ with_cells (outbox_of self.old) (stage_at place stage (outbox_of self.old).cells) }
-    {
-        if let Some(cell) = self.cells.record(place) {
-            self.cells.set_record(place, Cell { stage, ..cell });
-        }
-    }
 }
 
 impl<O: Direction<Other = I>, I: Direction<Other = O>> End<O, I> {

@@ -4,6 +4,9 @@ ghost use Rattle.std.specs.Prelude.{◌≡◌, ◌%◌, map};
 use calls::{Label, Outcome};
 use directions::{Identifier, Mark};
 
+// The most blocks of a message.
+pub(crate) const MOST_BLOCKS: u8 = 16;
+
 // How far an outgoing message is: how many of its blocks are acknowledged, and whether the next one, the current block, has gone out; or what it came to.
 #[derive(Clone, Copy, PartialEq, Eq, Debug)]
 pub enum Stage {
@@ -52,6 +55,7 @@ pub enum Plan {
 }
 
 // A message block as it is heard: the octets of its text, and the characters that they are.
+// Both: characters need memory of their own, and the place of a block is read from its octets.
 #[derive(Clone, Copy)]
 pub(crate) struct HeardBlock<'a> {
     pub(crate) identifier: Identifier,

@@ -1,5 +1,4 @@
 // That what the lines say of their calls leaves nothing open.
-ghost use Rattle.std.specs.Prelude.{◌≡◌, true};
 ghost use Rattle.lines.specs.Outcome.{LinesDetermined};
 
 // Carries a theorem: from one state and one string, one answer and one state, for both lines and for a fade box over

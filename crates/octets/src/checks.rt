@@ -19,6 +19,7 @@ fn advanced(value: u16, octet: u8) -> u16
     ensures { result ≡ advance value octet }
 {
     let mixed = value ^ u16::from(octet);
+    // With the first of `to_le_bytes` it was tried, and that the result is the value after one more octet stayed open.
     (value / 256) ^ remainder((mixed % 256) as u8)
 }
 

@@ -1,8 +1,8 @@
 // The fade box: a path that loses, doubles and spoils strings on their way to the path below.
-ghost use Rattle.std.specs.Prelude.{◌≡◌, ℕ, ◌≤◌, List, ◌++◌, map, length, take, drop};
+ghost use Rattle.std.specs.Prelude.{◌≡◌, map, take};
 ghost use Rattle.paths.specs.Meaning.{Sized, Added, Puts};
 ghost use Rattle.paths.specs.Fates.{fate_of, coming};
-ghost use Rattle.paths.specs.Fading.{FadeSight, FadePuts, FadeTakes, Faded, spoiled};
+ghost use Rattle.paths.specs.Fading.{FadeSight, FadePuts, FadeTakes, Faded};
 ghost use Rattle.std.proofs.Common.{rules};
 
 use crate::fates::{Fate, Fates};

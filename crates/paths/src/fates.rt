@@ -19,6 +19,7 @@ impl From<u8> for Fate {
     ghost from_gives = { λ n fate. fate ≡ fate_of n };
 
     fn from(n: u8) -> Fate {
+        // By number, as fates come from outside: this is the one table of them.
         match n {
             0 => Fate::Lost,
             2 => Fate::Twice,

@@ -1,5 +1,4 @@
 // That exactness passes through layers.
-ghost use Rattle.std.specs.Prelude.{◌≡◌, true};
 ghost use Rattle.paths.specs.Outcome.{Determined};
 ghost use Rattle.paths.specs.Fading.{FadePuts, FadeTakes};
 

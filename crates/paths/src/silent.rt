@@ -1,5 +1,5 @@
 // A path that loses every string.
-ghost use Rattle.std.specs.Prelude.{◌≡◌, ℕ, List, [], None};
+ghost use Rattle.std.specs.Prelude.{◌≡◌, [], None};
 ghost use Rattle.std.proofs.Common.{rules};
 
 use crate::fault::PathFault;

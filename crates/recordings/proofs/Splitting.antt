@@ -1,5 +1,5 @@
 -- The splitter keeps the line so far, and cuts an input into its lines.
-use Rattle.std.proofs.Common.{◌≡◌, ℕ, ◌+◌, ◌<◌, ◌≤◌, eqb, List, [], ◌∷◌, ◌++◌, map, length, get_or, take, Some, None, Option, sym, refl, ap, ◌∙◌, append_assoc, arith, length-append}
+use Rattle.std.proofs.Common.{◌≡◌, ℕ, ◌+◌, ◌<◌, ◌≤◌, eqb, List, [], ◌∷◌, ◌++◌, map, length, get_or, take, Some, None, Option, sym, refl, ap, subst, take_all, ◌∙◌, append_assoc, arith, length-append}
 use Rattle.std.proofs.lemmas.Bool.{eqb-true, eqb-false}
 use Rattle.std.proofs.lemmas.Bool.Decides.{nat_tests}
 use Rattle.std.proofs.lemmas.List.Quantifiers.{position-Some}
@@ -8,7 +8,8 @@ use Rattle.std.specs.List.{flat_map, position, position_or_len}
 use Rattle.std.proofs.lemmas.List.{take_more, get_or-take, append-nil, flat_map_more, map_push, length-take-le}
 use Rattle.std.proofs.ByRecursion.{All-push, All-append, All-from_get_or}
 use Rattle.recordings.specs.declared.splitter.Splitter.{Splitter}
-use Rattle.recordings.specs.Split.{told, Unbroken, joined, Joins, Ended, closed, begun, fed, ended, LinesCut}
+use Rattle.std.specs.Option.{option_map, unwrap_or}
+use Rattle.recordings.specs.Split.{told, Unbroken, joined, Joins, Fed, Ended, closed, begun, fed, ended, LinesCut}
 
 -- what is kept of a line takes octets behind it as the line does
 pub joined_told : (p octets : List ℕ) → joined (told p) octets ≡ told (p ++ octets)
@@ -39,6 +40,14 @@ pub unbroken_all : (octets : List ℕ) → ◌≡◌ {A = Option ℕ} None (posi
 unbroken_all octets none =
     let all : length octets ≤ position_or_len (λ (x : ℕ). eqb x 10) octets = grind (arith, nat_tests) in
     All-from_get_or Plain octets 0 (λ k below. eqb-false (get_or octets k 0) 10 (fails_before_first (λ (x : ℕ). eqb x 10) octets k 0 (omega arith)))
+
+-- a piece up to its first line feed, or all of one that has none
+pub fed_at :
+    (s t : Splitter) (octets : List ℕ) (end r : Option ℕ) → end ≡ position (λ (x : ℕ). eqb x 10) octets → r ≡ option_map (λ (n : ℕ). n + 1) end →
+    Joins s (take (unwrap_or end (length octets)) octets) t → Fed s octets t r
+fed_at s t octets None r first answer joins =
+    subst (Fed s octets t) (sym answer) (unbroken_all octets first, joins ∙ ap (joined s) (take_all (length octets) octets (omega arith)))
+fed_at s t octets (Some n) r first answer joins = subst (Fed s octets t) (sym answer) (ended_at s t octets n first joins)
 
 pub lines_cut : LinesCut
 lines_cut s said input (begun holds) =

@@ -1,5 +1,6 @@
 // What an input line says: the direction of a string, and the string.
 use arrayvec::ArrayVec;
+use thiserror::Error;
 
 // The direction in which a string was sent: from the aircraft or to it.
 #[derive(Clone, Copy, PartialEq, Eq, Debug)]
@@ -9,7 +10,8 @@ pub enum Heading {
 }
 
 // An octet that is the letter of no direction.
-#[derive(Clone, Copy, PartialEq, Eq, Debug)]
+#[derive(Clone, Copy, PartialEq, Eq, Debug, Error)]
+#[error("no direction has the letter {0}")]
 pub struct NoHeading(pub u8);
 
 // The letter of a direction.

@@ -1,5 +1,4 @@
 // What holds of all input lines.
-ghost use Rattle.std.specs.Prelude.{◌≡◌};
 ghost use Rattle.recordings.specs.Laws.{LinesStand, LinesReadBack};
 ghost use Rattle.recordings.specs.Split.{LinesCut};
 

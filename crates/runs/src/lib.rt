@@ -1,4 +1,5 @@
 // The law of a link of two ends, over any two paths: definitions and lemmas alone. Each function carries a theorem in its contract, and does nothing.
+// They stay functions of their own: what differs is the theorem, which no parameter can be.
 #![tactic(auto)]
 
 ghost use Rattle.runs.specs.Rounds.{Progress};

@@ -1,5 +1,5 @@
 -- What a store of messages holds, and what its calls do to it. Assumes nothing.
-use Rattle.std.specs.Prelude.{◌≡◌, ℕ, zero, suc, ◌<◌, ◌≤◌, ◌⊎◌, List, [], ◌∷◌, ◌++◌, length, map, remove, vec_items, Some, None, Ok, Err, Option, Result}
+use Rattle.std.specs.Prelude.{◌≡◌, ℕ, zero, suc, ◌<◌, ◌≤◌, ◌⊎◌, List, [], ◌∷◌, ◌++◌, length, map, drop, vec_items, Some, None, Ok, Err, Option, Result}
 use Rattle.std.specs.Option.{option_map}
 use Rattle.std.specs.List.{slice_get}
 use Rattle.stores.specs.declared.text.NoRoom.{NoRoom}
@@ -38,10 +38,6 @@ with_record i r [] = []
 with_record zero r (m ∷ ms) = stored r m.text ∷ ms
 with_record (suc i) r (m ∷ ms) = m ∷ with_record i r ms
 
--- Messages without the one at a place.
-abbrev pub without : {R : Type 0} → ℕ → List (Stored R) → List (Stored R)
-without i ms = remove ms i
-
 -- A message was added as the newest: there was room for it, and its text fits.
 pub record Pushed {R : Type 0} (before : List (Stored R)) (r : R) (t : List ℕ) (after : List (Stored R)) : Type 0 where
   pub room : length before < 4
@@ -62,7 +58,7 @@ Pushes before r t after (Err fault) = NotPushed before t after
 pub record Popped {R : Type 0} (before : List (Stored R)) (r : R) (after : List (Stored R)) : Type 0 where
   pub first : record_at 0 before ≡ Some r
   pub some : 0 < length before
-  pub rest : after ≡ without 0 before
+  pub rest : after ≡ drop 1 before
 
 -- There was no message to free, and there is none.
 pub record NotPopped {R : Type 0} (before after : List (Stored R)) : Type 0 where

@@ -14,7 +14,7 @@ struct Message<R> {
 }
 
 // The messages, oldest first, and the texts not in use.
-// No ArrayVec: it keeps a blank in each free place, and a text without its memory is none.
+// No ArrayVec: a free place would need a blank text, and a text owns memory.
 #[derive(Drop)]
 pub struct MessageStore<R> {
     messages: Vec<Message<R>>,

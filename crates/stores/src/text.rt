@@ -2,14 +2,16 @@
 ghost use Rattle.std.specs.Prelude.{◌≡◌, ◌≤◌, [], length, IfOk, vec_len, vec_capacity};
 
 use std::alloc::{AllocError, Global};
+use thiserror::Error;
 
 const MOST: usize = 3520;
 
 // What was to be added does not fit.
-#[derive(Clone, Copy, PartialEq, Eq, Debug)]
+#[derive(Clone, Copy, PartialEq, Eq, Debug, Error)]
+#[error("no room is left, or the text is too long")]
 pub struct NoRoom;
 
-// Ghost fields and no model: who holds a text knows its bounds, with no clause that repeats them.
+// Ghost fields and no model: a store of texts needs no clause on them.
 #[derive(Drop)]
 pub struct Text {
     octets: Vec<u8>,
@@ -60,6 +62,7 @@ impl Text {
             return Err(NoRoom);
         }
         // the room is reserved, so no memory is asked for
-        self.octets.extend_from_slice(more).map_err(|_| NoRoom)
+        self.octets.extend_from_slice(more).unwrap();
+        Ok(())
     }
 }

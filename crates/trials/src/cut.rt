@@ -8,6 +8,7 @@ use directions::{Direction, Downlink, Identifier, Uplink};
 use octets::character_of;
 
 // The length; the two octets of the check; the refusal's number and place, or none where the string is a block.
+// Nameless, since names would take the tables five lines a case.
 #[derive(Clone, Copy)]
 pub(crate) struct Length(
     pub(crate) usize,

@@ -9,8 +9,7 @@ fn known_checks(rt: HostRuntime) {
         octets::check(&[0x01]) == 0x1189
             && octets::check(&[0x80]) == 0x8408
             && octets::check(b"123456789") == 0x2189
-            && sent % 256 == 0x3E
-            && sent / 256 == 0x6B
+            && sent.to_le_bytes() == [0x3E, 0x6B]
     );
 }
 

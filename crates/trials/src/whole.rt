@@ -14,7 +14,7 @@ pub(crate) fn holds(buffer: &[u8], string: &[u8]) -> bool {
         .is_some_and(|behind| behind.iter().all(|octet| *octet == BEFORE))
 }
 
-// Whether the octets carry these characters.
+// Whether the octets carry these characters. No derived equality can tell: octets have parity, and characters have none.
 fn carry(octets: &[u8], characters: &[u8]) -> bool {
     octets.len() == characters.len()
         && octets
@@ -23,7 +23,7 @@ fn carry(octets: &[u8], characters: &[u8]) -> bool {
             .all(|(octet, character)| character_of(*octet) == *character)
 }
 
-// Whether a block that was read has the fields of one given to write.
+// Whether a block that was read has the fields of one given to write: octets on one side, characters on the other.
 fn same(read: &Block<'_>, given: &Block<'_>) -> bool {
     carry(read.address(), given.address())
         && read.acknowledgment() == given.acknowledgment()

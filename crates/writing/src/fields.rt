@@ -14,7 +14,7 @@ fn is_acknowledgment<R: Ring>(acknowledgment: Option<Identifier>) -> bool
     acknowledgment.is_none_or(|identifier| R::holds(identifier))
 }
 
-// The index of the first character that may not stand in the label; a response's is its own.
+// The index of the first character that may not stand in the label; none for a response, whose label is fixed.
 fn label_fault(block: &Block<'_>) -> Option<usize>
     ensures tested { LabelTested (fields_given block.now) result }
     ensures long { length (label_of (fields_given block.now)) ≡ 2 }

@@ -1,7 +1,6 @@
 // Writing a block into a buffer, and the round trip of reading and writing.
 #![tactic(auto)]
 
-ghost use Rattle.std.specs.Prelude.{◌≡◌};
 ghost use Rattle.writing.specs.RoundTrip.{EveryRoundTrip};
 
 mod fields;

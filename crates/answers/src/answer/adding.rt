@@ -1,9 +1,9 @@
 // Adding parts at the end of a line of output: of each as much as there is room for.
-ghost use Rattle.std.specs.Prelude.{◌≡◌, ◌≤◌, [], ◌∷◌, ◌++◌, map, length};
+ghost use Rattle.std.specs.Prelude.{◌≡◌, ◌≤◌, [], ◌∷◌, map, length};
 ghost use Rattle.std.specs.List.{flat_map};
 ghost use Rattle.octets.specs.Parity.{character};
 ghost use Rattle.answers.specs.Printed.{escaped};
-ghost use Rattle.answers.specs.Room.{cut};
+ghost use Rattle.answers.specs.Room.{Adds};
 
 use crate::answer::AnswerLine;
 use arrayvec::ArrayVec;
@@ -22,7 +22,8 @@ impl AnswerLine {
 
     // What the line holds.
     pub fn as_slice(&self) -> &[u8]
-        ensures { result.now ≡ self.now }
+        ensures held { result.now ≡ self.now }
+        ensures within { length result.now ≤ 512 }
     {
         self.octets.as_slice()
     }
@@ -36,7 +37,7 @@ impl AnswerLine {
 
     // Adds octets as they are.
     pub(crate) fn add(&mut self, part: &[u8])
-        ensures { self.new ≡ cut (self.old ++ part.now) }
+        ensures { Adds self.old part.now self.new }
     {
         let room = self.octets.remaining_capacity().min(part.len());
         self.octets.try_extend_from_slice(&part[..room]).unwrap();
@@ -44,7 +45,7 @@ impl AnswerLine {
 
     // Adds a comma, and a part behind it.
     pub(crate) fn add_part(&mut self, part: &[u8])
-        ensures { self.new ≡ cut (self.old ++ (44 ∷ part.now)) }
+        ensures { Adds self.old (44 ∷ part.now) self.new }
     {
         self.add(b",");
         self.add(part);
@@ -52,11 +53,11 @@ impl AnswerLine {
 
     // Adds a comma, and the characters of octets behind it.
     pub(crate) fn add_characters<const N: usize>(&mut self, octets: &[u8; N])
-        ensures added { self.new ≡ cut (self.old ++ (44 ∷ map character octets.now)) }
+        ensures added { Adds self.old (44 ∷ map character octets.now) self.new }
         ensures sized { length octets.now ≡ N }
     {
         self.add(b",");
-        // A loop: of an array's `map` a proof knows no more than its calls at each place.
+        // A loop: with the array's `map` it was tried, and its demand that N is below 2 ^ 63 stayed open.
         for octet in octets {
             self.add(&[character_of(*octet)]);
         }
@@ -64,7 +65,7 @@ impl AnswerLine {
 
     // Adds a character of a text: a line feed, a carriage return and a backslash as a backslash and a letter for them.
     fn add_escaped(&mut self, character: u8)
-        ensures { self.new ≡ cut (self.old ++ escaped character) }
+        ensures { Adds self.old (escaped character) self.new }
     {
         match character {
             b'\n' => self.add(b"\\n"),
@@ -76,7 +77,7 @@ impl AnswerLine {
 
     // Adds a comma, and the characters of a text behind it.
     pub(crate) fn add_text(&mut self, text: &[u8])
-        ensures { self.new ≡ cut (self.old ++ (44 ∷ flat_map escaped (map character text.now))) }
+        ensures { Adds self.old (44 ∷ flat_map escaped (map character text.now)) self.new }
     {
         self.add(b",");
         for octet in text {
@@ -86,7 +87,7 @@ impl AnswerLine {
 
     // Adds a number in decimal.
     pub(crate) fn add_number<I: Integer>(&mut self, number: I)
-        ensures added { self.new ≡ cut (self.old ++ I.text number) }
+        ensures added { Adds self.old (I.text number) self.new }
         ensures short { length (I.text number) ≤ I.MAX_STR_LEN }
     {
         self.add(Buffer::new().format(number).as_bytes());

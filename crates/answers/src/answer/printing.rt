@@ -4,15 +4,17 @@ ghost use Rattle.octets.specs.Parity.{character};
 ghost use Rattle.blocks.specs.Fields.{named, fields_read};
 ghost use Rattle.blocks.specs.Faults.{number_of, place_of};
 ghost use Rattle.answers.specs.Printed.{printed, unread, outcome_of, fits_block, fits_line, commas, detail, placed, acknowledged};
-ghost use Rattle.answers.specs.Room.{cut};
+ghost use Rattle.answers.specs.Room.{Adds};
 
 use crate::answer::AnswerLine;
 use blocks::{Block, BlockFault};
 use directions::Identifier;
 use recordings::Heading;
+use thiserror::Error;
 
 // A text of more than 220 octets.
-#[derive(Clone, Copy, PartialEq, Eq, Debug)]
+#[derive(Clone, Copy, PartialEq, Eq, Debug, Error)]
+#[error("the text has more than 220 octets")]
 pub struct TextTooLong;
 
 impl AnswerLine {
@@ -67,7 +69,7 @@ impl AnswerLine {
     // Adds what a block is, and ends the line.
     fn add_block(&mut self, block: Block<'_>)
         requires { IsTrue (fits_block block) }
-        ensures added { self.new ≡ cut (self.old ++ (44 ∷ commas (codes "0" ∷ detail (fields_read block.entry)) ++ (10 ∷ []))) }
+        ensures added { Adds self.old (44 ∷ commas (codes "0" ∷ detail (fields_read block.entry)) ++ (10 ∷ [])) self.new }
         ensures short { length (commas (codes "0" ∷ detail (fields_read block.entry))) ≤ 480 }
     {
         match block {
@@ -101,7 +103,7 @@ impl AnswerLine {
 
     // Adds an address, and an acknowledgment as its character, a hyphen for none.
     fn add_head(&mut self, address: &[u8; 7], acknowledgment: Option<Identifier>)
-        ensures added { self.new ≡ cut (self.old ++ (44 ∷ map character address.now ++ (44 ∷ acknowledged (named acknowledgment) ∷ []))) }
+        ensures added { Adds self.old (44 ∷ map character address.now ++ (44 ∷ acknowledged (named acknowledgment) ∷ [])) self.new }
         ensures sized { length address.now ≡ 7 }
     {
         self.add_characters(address);
@@ -110,7 +112,7 @@ impl AnswerLine {
 
     // Adds why a string is no block, the number of the refusal and its place if it has one, and ends the line.
     fn add_fault(&mut self, fault: BlockFault)
-        ensures added { self.new ≡ cut (self.old ++ (44 ∷ decimal (number_of fault) ++ (44 ∷ placed (place_of fault) ++ (10 ∷ [])))) }
+        ensures added { Adds self.old (44 ∷ decimal (number_of fault) ++ (44 ∷ placed (place_of fault) ++ (10 ∷ []))) self.new }
         ensures short { length (decimal (number_of fault)) + length (placed (place_of fault)) ≤ 40 }
     {
         self.add(b",");
