@@ -1,6 +1,6 @@
 -- Calls served in turn, by what serving one of them means, and the run that they make.
 -- Assumes nothing.
-use Rattle.std.specs.Prelude.{◌≡◌, ℕ, ◌+◌, ◌<◌, ◌≤◌, List, [], ◌∷◌, ◌++◌, length, None, Ok, Err, Result, ◌⊎◌}
+use Rattle.std.specs.Prelude.{Option, ◌≡◌, ℕ, ◌+◌, ◌<◌, ◌≤◌, List, [], ◌∷◌, ◌++◌, length, None, Ok, Err, Result, ◌⊎◌}
 use Rattle.calls.specs.declared.fault.LinkFault.{LinkFault}
 use Rattle.calls.specs.declared.call.Side.{Side}
 use Rattle.calls.specs.declared.call.Call.{Call}
@@ -11,7 +11,7 @@ use Rattle.calls.specs.Faults.{number_of, place_of}
 use Rattle.runs.specs.Links.{Deed, Event, at, Run, Onward}
 use Rattle.links.specs.declared.request.Request.{Request}
 use Rattle.links.specs.Served.{IsDeed}
-use Rattle.links.specs.Links.{Sight, seen, side_of, Unmade}
+use Rattle.links.specs.Links.{Sight, seen, side_of, Made, Unmade, ServedAt}
 
 module _ {S : Type 0} (serves : Side → S → List ℕ → Call → Answer → S → List ℕ → Type 0) where
   -- calls and their answers, one after the other
@@ -41,6 +41,16 @@ module _ {V U : Type 0} (sv : V → List (List ℕ)) (su : U → List (List ℕ)
 
   abbrev pub GoesOn : Sight V U → List Request → List Answer → List Answer → Sight V U → Type 0
   GoesOn s qs before after s' = (ys : List Answer) × (after ≡ before ++ ys) × RunsOn s qs ys s'
+
+  -- a link was made and the calls were served on it in turn; the answers join those that stood there
+  pub record Ran (pv : V → List ℕ → V → Type 0) (tv : V → Option (List ℕ) → V → Type 0) (pu : U → List ℕ → U → Type 0) (tu : U → Option (List ℕ) → U → Type 0)
+      (most : ℕ) (a g : Settings) (v : V) (u : U) (b : List ℕ) (qs : List Request) (before after : List Answer) (s : Sight V U) (b' : List ℕ) : Type 0 where
+    pub fresh : Sight V U
+    pub made : Made sv su tv tu a g v u fresh
+    pub ys : List Answer
+    pub answers : after ≡ before ++ ys
+    pub room : length before + length qs ≤ most
+    pub turns : InTurn (ServedAt sv su pv tv pu tu) fresh b qs ys s b'
 
   -- a run from a new link, by exactly these calls and answers
   abbrev pub Began : List Request → List Answer → List Answer → Sight V U → Type 0

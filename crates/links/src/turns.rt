@@ -2,7 +2,7 @@
 ghost use Rattle.std.specs.Prelude.{◌≡◌, IfOk, IfErr};
 ghost use Rattle.links.specs.Links.{sight, aircraft_of, ground_of, ServedAt};
 ghost use Rattle.links.specs.Laws.{LinkLaw};
-ghost use Rattle.links.specs.Turns.{Served, GoesOn, Began, NotBegun};
+ghost use Rattle.links.specs.Turns.{Served, GoesOn, Ran, Began, NotBegun};
 
 use crate::link::Link;
 use crate::request::Request;
@@ -43,6 +43,7 @@ impl<P: AirPath + Drop, Q: AirPath + Drop> Link<P, Q> {
         answers: &mut ArrayVec<Answer, N>,
         buffer: &mut [u8],
     ) -> Result<Link<P, Q>, LinkFault>
+        ensures exact { IfOk result (λ l. Ran P.AirPath.strings Q.AirPath.strings P.AirPath.puts P.AirPath.takes Q.AirPath.puts Q.AirPath.takes N (aircraft_of stations) (ground_of stations) (P.AirPath.sees down) (Q.AirPath.sees up) buffer.old requests.now answers.old.items answers.new.items (sight P.AirPath.sees Q.AirPath.sees l) buffer.new) }
         ensures run { IfOk result (λ l. Began P.AirPath.strings Q.AirPath.strings requests.now answers.old.items answers.new.items (sight P.AirPath.sees Q.AirPath.sees l)) }
         ensures refused { IfErr result (NotBegun N (aircraft_of stations) (ground_of stations) requests.now answers.old.items answers.new.items buffer.old buffer.new) }
         ensures law { LinkLaw }

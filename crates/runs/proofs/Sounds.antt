@@ -15,6 +15,7 @@ use Rattle.blocks.specs.Fields.{Fields, response, message, head_of}
 use Rattle.blocks.specs.Legal.{Way, at, address_allows, acknowledges, is_text, label_allows, text_allows, text_length, head_allows, TextKept, Sound}
 use Rattle.blocks.specs.Reading.{pick}
 use Rattle.writing.specs.Writing.{Refusal, HeadBad, HeadGood, TextBad}
+use Rattle.calls.proofs.Flights.{flight_tested}
 use Rattle.calls.specs.declared.types.Settings.{Settings}
 use Rattle.calls.specs.declared.types.Setting.TheVariants.{Registration, Originator, Flight}
 use Rattle.stores.specs.Held.{Stored}
@@ -99,7 +100,7 @@ module _ (s : Settings) (A : Accepted s) where
   address_at i h = address_all s.registration (A.good Registration) i h
 
   flight_at : (i : ℕ) → i < 6 → is_letter_or_digit (slice_index s.flight i) ≡ true
-  flight_at i h = each_at is_letter_or_digit s.flight (A.good Flight) i (let e = A.six in omega (arith, e, h))
+  flight_at i h = each_at is_letter_or_digit s.flight (flight_tested s.flight A.six ∙ A.good Flight) i (let e = A.six in omega (arith, e, h))
 
   letter : is_letter s.originator ≡ true
   letter = A.good Originator
