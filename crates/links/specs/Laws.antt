@@ -11,5 +11,5 @@ pub record LinkLaw : Type 0 where
   pub waiting : WaitingComeOut
   -- clean rounds make exact progress
   pub progress : Progress
-  -- few refusals are met
+  -- a tick is refused by 14 alone, a hear by 2, 3, 4, 5 or 12 alone
   pub refusals : RefusalsBetween
