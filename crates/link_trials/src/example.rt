@@ -14,14 +14,14 @@ const SUBMIT: Call<'static> = Call::Submit {
 };
 
 // A call at the aircraft's end, and one at the ground's.
-pub(crate) fn aircraft(call: Call<'_>) -> Request<'_> {
+fn aircraft(call: Call<'_>) -> Request<'_> {
     Request {
         side: Side::Aircraft,
         call,
     }
 }
 
-pub(crate) fn ground(call: Call<'_>) -> Request<'_> {
+fn ground(call: Call<'_>) -> Request<'_> {
     Request {
         side: Side::Ground,
         call,
@@ -42,7 +42,7 @@ pub(crate) fn requests() -> [Request<'static>; 7] {
 }
 
 // What they answer.
-pub(crate) fn answers() -> [Answer; 7] {
+fn answers() -> [Answer; 7] {
     [
         Answer::Submit(Ok(1)),
         Answer::Tick(Ok(Ticked::Block)),

@@ -24,7 +24,7 @@ fn two_uplinks_are_not_joined(rt: HostRuntime) -> Result<(), Fail> {
 
 // The second block went out too, and was lost.
 #[test]
-fn nor_after_a_loss(rt: HostRuntime) -> Result<(), Fail> {
+fn nor_are_they_after_a_loss(rt: HostRuntime) -> Result<(), Fail> {
     let mut talk = Talk::fading(rt.alloc(), &[], &[1, 0])?;
     talk.submits(&rt, Side::Ground, &[b'x'; 221], 1);
     talk.ticks(&rt, Side::Ground, 0, Ticked::Block);
