@@ -29,3 +29,4 @@ pub mod Progressing
 pub mod Waitings
 pub mod Sounds
 pub mod Refusing
+pub mod Given

@@ -19,6 +19,7 @@ use Rattle.runs.proofs.Cuts.{counted_at, cuts_whole}
 use Rattle.runs.proofs.Receivers.{WaitingAre, none_wait, one_waits}
 use Rattle.runs.proofs.Relating.{EndIs, is_end}
 use Rattle.runs.proofs.Mapped.{Names, down_of, up_of, LinkIs, link_is, RunIs, names_of, run_at, run_is, onward_is, at_names}
+use Rattle.runs.proofs.Given.{Numbers, numbers_of_run}
 use Rattle.runs.proofs.Deeds.{calls_are, cut, flat, submissions_same, handed_same, withdrawn_to, withdrawn_from, told_to, numbered_from, last_acknowledged_to, last_acknowledged_from, late_to, late_from}
 
 -- a message cut and joined up again
@@ -69,12 +70,13 @@ module _ (n : Names) (x : Side) where
       ap (λ (ms : List Message). handed_out (calls (other x) h) ++ ms) (end_waiting (other x) (side_is (other x) I.is))
 
   -- what holds of a run
-  pub true_of : {h : List Event} {l : Link} (I : RunIs n h l) → TrueOf x (calls x h) (called x h l) (completed (other x) h l) (numbers I)
-  true_of {h = h} {l = l} I =
+  pub true_of : {h : List Event} {l : Link} (I : RunIs n h l) → Numbers (calls x h) (end_of x l) → TrueOf x (calls x h) (called x h l) (completed (other x) h l) (numbers I)
+  true_of {h = h} {l = l} I N =
       let T = lawful.holds I.history I.end_link I.run in
       let c = calls_are x I.maps in
       let s = called_same I in
       record {
+        given = N.given;
         borne = subst (Bears (submissions (calls x h)) (numbers I)) (completed_same I)
             (bears_same x (submissions (calls x h)) (subst (λ (ms : List senders.Message). truth.Bears ms (numbers I) (truth.completed (other x) I.history I.end_link)) (submissions_same c) T.borne));
         order = T.order;
@@ -101,7 +103,7 @@ truthful x = record {
       subst (Extends (numbers (names_of r) x (run_is r)))
       (at_names r' (λ (n : Names) (J : RunIs n h' l'). numbers n x J) (names_of r) I.names)
       ((lawful (names_of r) x).extends (run_is r).history (run_at (names_of r) r' I.names).history (run_is r).end_link (run_at (names_of r) r' I.names).end_link (run_is r).run (run_at (names_of r) r' I.names).run I.onward);
-  holds = λ h l r. true_of (names_of r) x (run_is r);
+  holds = λ h l r. true_of (names_of r) x (run_is r) (numbers_of_run x r);
   never = λ h h' l l' r r' o n e a.
       let I = onward_is (names_of r) refl o in
       (lawful (names_of r) x).never (run_is r).history (run_at (names_of r) r' I.names).history (run_is r).end_link (run_at (names_of r) r' I.names).end_link (run_is r).run (run_at (names_of r) r' I.names).run I.onward n

@@ -8,8 +8,8 @@ use Rattle.law.specs.Senders.{Status, unsettled, delivered, not_delivered, in_do
 use Rattle.law.specs.Links.{Side}
 use Rattle.law.specs.Truth.{other, Among, Rises, Extends}
 use Rattle.calls.specs.Faults.{number_of}
-use Rattle.runs.specs.Links.{Strings, Link, Place, Put, Deed, tick, hear, collect, outcome, Event, at, Step, Run, Onward}
-use Rattle.runs.specs.History.{Message, calls, submissions, completed, numbered, given_out, status_of, called, end_of, waits, Made, Withdrawn, LastAcknowledged, WithdrawnLate}
+use Rattle.runs.specs.Links.{Strings, Link, Place, Put, Deed, submit, tick, hear, collect, outcome, Event, at, Step, Run, Onward}
+use Rattle.runs.specs.History.{Message, message, calls, submissions, completed, numbered, given_out, status_of, called, end_of, waits, Made, Withdrawn, LastAcknowledged, WithdrawnLate}
 
 -- each message is the submitted one whose number it bears
 pub data Bears (given : List Message) : List ℕ → List Message → Type 0 where
@@ -19,6 +19,8 @@ pub data Bears (given : List Message) : List ℕ → List Message → Type 0 whe
 -- what holds of the messages of side x, by its calls h, what each number is called, the messages done that completed at the
 -- other side, and the numbers ns that these bear
 pub record TrueOf (x : Side) (h : List Deed) (called-now : ℕ → Status) (done : List Message) (ns : List ℕ) : Type 0 where
+  -- the number that a submit answered is the place of its message among the submitted ones
+  pub given : (n : ℕ) (l : Label) (t : List ℕ) → Made (submit l t (Ok n)) h → numbered (submissions h) n ≡ Some (message l.0 t)
   -- completed messages have the label and the text of the submitted ones whose numbers they bear
   pub borne : Bears (submissions h) ns done
   -- the numbers rise strictly
