@@ -1,7 +1,8 @@
 // A message from the aircraft that is delivered, call by call.
-use crate::talk::{LABEL, Talk, holds};
+use crate::talk::{LABEL, STATIONS, Talk, holds, memory, path};
+use arrayvec::ArrayVec;
 use calls::{Answer, Call, Heard, Outcome, Side, Ticked};
-use links::Request;
+use links::{Link, Request};
 use std::test::Fail;
 
 const TEXT: &[u8] = b"FUEL 1240";
@@ -64,6 +65,28 @@ fn served_one_by_one(rt: HostRuntime) -> Result<(), Fail> {
             answer
         );
     }
+    holds(&rt, &buffer, TEXT);
+    Ok(())
+}
+
+#[test]
+fn run_as_a_list(rt: HostRuntime) -> Result<(), Fail> {
+    let heap = rt.alloc();
+    let mut buffer = [0xEE; 3520];
+    let mut given = ArrayVec::<Option<Answer>, 7>::new();
+    let _ = Link::run(
+        memory(heap)?,
+        STATIONS,
+        path(heap, &[])?,
+        path(heap, &[])?,
+        &requests(),
+        &mut given,
+        &mut buffer,
+    )?;
+    for (held, answer) in given.as_slice().iter().zip(answers()) {
+        assert_eq!(rt; *held, Some(answer));
+    }
+    assert_eq!(rt; given.len(), 7);
     holds(&rt, &buffer, TEXT);
     Ok(())
 }

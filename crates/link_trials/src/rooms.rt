@@ -7,15 +7,15 @@ use links::Link;
 use std::process::Abort;
 use std::test::Fail;
 
-const EARLIER: Answer = Answer::Submit(Ok(7));
+const EARLIER: Option<Answer> = Some(Answer::Submit(Ok(7)));
 
 // Room for one answer, which is taken.
-fn taken() -> ArrayVec<Answer, 1> {
+fn taken() -> ArrayVec<Option<Answer>, 1> {
     ArrayVec::from([EARLIER])
 }
 
 // The one answer stands there alone, and the buffer is as it was.
-fn untouched(rt: &impl Abort, answers: &ArrayVec<Answer, 1>, buffer: &[u8]) {
+fn untouched(rt: &impl Abort, answers: &ArrayVec<Option<Answer>, 1>, buffer: &[u8]) {
     assert_eq!(rt; answers.as_slice(), [EARLIER].as_slice());
     holds(rt, buffer, b"");
 }

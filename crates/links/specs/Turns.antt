@@ -1,6 +1,6 @@
 -- Calls served in turn, by what serving one of them means, and the run that they make.
 -- Assumes nothing.
-use Rattle.std.specs.Prelude.{Option, ◌≡◌, ℕ, ◌+◌, ◌<◌, ◌≤◌, List, [], ◌∷◌, ◌++◌, length, None, Ok, Err, Result, ◌⊎◌}
+use Rattle.std.specs.Prelude.{Some, Option, ◌≡◌, ℕ, ◌+◌, ◌<◌, ◌≤◌, List, [], ◌∷◌, ◌++◌, map, length, None, Ok, Err, Result, ◌⊎◌}
 use Rattle.calls.specs.declared.fault.LinkFault.{LinkFault}
 use Rattle.calls.specs.declared.call.Side.{Side}
 use Rattle.calls.specs.declared.call.Call.{Call}
@@ -13,6 +13,10 @@ use Rattle.links.specs.declared.request.Request.{Request}
 use Rattle.links.specs.Served.{IsDeed}
 use Rattle.links.specs.Links.{Sight, seen, side_of, Made, Unmade, ServedAt}
 
+-- an answer as a place of a list holds it
+abbrev pub some_of : Answer → Option Answer
+some_of a = Some a
+
 module _ {S : Type 0} (serves : Side → S → List ℕ → Call → Answer → S → List ℕ → Type 0) where
   -- calls and their answers, one after the other
   pub data InTurn (s : S) (b : List ℕ) : List Request → List Answer → S → List ℕ → Type 0 where
@@ -21,9 +25,9 @@ module _ {S : Type 0} (serves : Side → S → List ℕ → Call → Answer → 
         InTurn s b qs ys s' b' → serves q.side s' b' q.call a s'' b'' → InTurn s b (qs ++ q ∷ []) (ys ++ a ∷ []) s'' b''
 
   -- a list of calls is served whole; or refused by 1, if there is no room for so many answers
-  abbrev pub Served : ℕ → S → List ℕ → List Request → List Answer → Result (Unit {0}) LinkFault → List Answer → S → List ℕ → Type 0
+  abbrev pub Served : ℕ → S → List ℕ → List Request → List (Option Answer) → Result (Unit {0}) LinkFault → List (Option Answer) → S → List ℕ → Type 0
   Served most s b qs before (Ok u) after s' b' =
-      (ys : List Answer) × (after ≡ before ++ ys) × (length before + length qs ≤ most) × InTurn s b qs ys s' b'
+      (ys : List Answer) × (after ≡ before ++ map some_of ys) × (length before + length qs ≤ most) × InTurn s b qs ys s' b'
   Served most s b qs before (Err f) after s' b' =
       (number_of f ≡ 1) × (place_of f ≡ None) × (most < length before + length qs) × (after ≡ before) × (s' ≡ s) × (b' ≡ b)
 
@@ -39,24 +43,24 @@ module _ {V U : Type 0} (sv : V → List (List ℕ)) (su : U → List (List ℕ)
   RunsOn s qs ys s' = (h : List Event) (r : Run h (seen sv su s)) →
       (h' : List Event) × (r' : Run h' (seen sv su s')) × Logged h qs ys h' × Onward h (seen sv su s) r h' (seen sv su s') r'
 
-  abbrev pub GoesOn : Sight V U → List Request → List Answer → List Answer → Sight V U → Type 0
-  GoesOn s qs before after s' = (ys : List Answer) × (after ≡ before ++ ys) × RunsOn s qs ys s'
+  abbrev pub GoesOn : Sight V U → List Request → List (Option Answer) → List (Option Answer) → Sight V U → Type 0
+  GoesOn s qs before after s' = (ys : List Answer) × (after ≡ before ++ map some_of ys) × RunsOn s qs ys s'
 
   -- a link was made and the calls were served on it in turn; the answers join those that stood there
   pub record Ran (pv : V → List ℕ → V → Type 0) (tv : V → Option (List ℕ) → V → Type 0) (pu : U → List ℕ → U → Type 0) (tu : U → Option (List ℕ) → U → Type 0)
-      (most : ℕ) (a g : Settings) (v : V) (u : U) (b : List ℕ) (qs : List Request) (before after : List Answer) (s : Sight V U) (b' : List ℕ) : Type 0 where
+      (most : ℕ) (a g : Settings) (v : V) (u : U) (b : List ℕ) (qs : List Request) (before after : List (Option Answer)) (s : Sight V U) (b' : List ℕ) : Type 0 where
     pub fresh : Sight V U
     pub made : Made sv su tv tu a g v u fresh
     pub ys : List Answer
-    pub answers : after ≡ before ++ ys
+    pub answers : after ≡ before ++ map some_of ys
     pub room : length before + length qs ≤ most
     pub turns : InTurn (ServedAt sv su pv tv pu tu) fresh b qs ys s b'
 
   -- a run from a new link, by exactly these calls and answers
-  abbrev pub Began : List Request → List Answer → List Answer → Sight V U → Type 0
-  Began qs before after s = (ys : List Answer) × (h : List Event) × (after ≡ before ++ ys) × Logged [] qs ys h × Run h (seen sv su s)
+  abbrev pub Began : List Request → List (Option Answer) → List (Option Answer) → Sight V U → Type 0
+  Began qs before after s = (ys : List Answer) × (h : List Event) × (after ≡ before ++ map some_of ys) × Logged [] qs ys h × Run h (seen sv su s)
 
 -- nothing was served: no link was made, or there is no room for so many answers
-abbrev pub NotBegun : ℕ → Settings → Settings → List Request → List Answer → List Answer → List ℕ → List ℕ → LinkFault → Type 0
+abbrev pub NotBegun : ℕ → Settings → Settings → List Request → List (Option Answer) → List (Option Answer) → List ℕ → List ℕ → LinkFault → Type 0
 NotBegun most a g qs before after b b' f =
     (after ≡ before) × (b' ≡ b) × (Unmade a g f ⊎ (Good a × Good g × (number_of f ≡ 1) × (place_of f ≡ None) × (most < length before + length qs)))

@@ -17,7 +17,7 @@ impl<P: AirPath + Drop, Q: AirPath + Drop> Link<P, Q> {
     pub fn serve_all<const N: usize>(
         &mut self,
         requests: &[Request<'_>],
-        answers: &mut ArrayVec<Answer, N>,
+        answers: &mut ArrayVec<Option<Answer>, N>,
         buffer: &mut [u8],
     ) -> Result<(), LinkFault>
         ensures exact { Served (ServedAt P.AirPath.strings Q.AirPath.strings P.AirPath.puts P.AirPath.takes Q.AirPath.puts Q.AirPath.takes) N (sight P.AirPath.sees Q.AirPath.sees self.old) buffer.old requests.now answers.old.items result answers.new.items (sight P.AirPath.sees Q.AirPath.sees self.new) buffer.new }
@@ -28,7 +28,7 @@ impl<P: AirPath + Drop, Q: AirPath + Drop> Link<P, Q> {
             return Err(LinkFault::Buffer);
         }
         for request in requests {
-            answers.push(self.serve(request.side, request.call, buffer));
+            answers.push(Some(self.serve(request.side, request.call, buffer)));
         }
         Ok(())
     }
@@ -40,7 +40,7 @@ impl<P: AirPath + Drop, Q: AirPath + Drop> Link<P, Q> {
         down: P,
         up: Q,
         requests: &[Request<'_>],
-        answers: &mut ArrayVec<Answer, N>,
+        answers: &mut ArrayVec<Option<Answer>, N>,
         buffer: &mut [u8],
     ) -> Result<Link<P, Q>, LinkFault>
         ensures exact { IfOk result (λ l. Ran P.AirPath.strings Q.AirPath.strings P.AirPath.puts P.AirPath.takes Q.AirPath.puts Q.AirPath.takes N (aircraft_of stations) (ground_of stations) (P.AirPath.sees down) (Q.AirPath.sees up) buffer.old requests.now answers.old.items answers.new.items (sight P.AirPath.sees Q.AirPath.sees l) buffer.new) }

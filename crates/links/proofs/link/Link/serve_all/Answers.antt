@@ -4,7 +4,7 @@ use Rattle.std.proofs.lemmas.List.{length_push}
 use Rattle.calls.specs.declared.call.Answer.{Answer}
 use Rattle.links.specs.Turns.{InTurn, none_served}
 use Rattle.links.proofs.Making.{link_law}
-use Rattle.links.proofs.Going.{goes_on, turn_more, turns_all}
+use Rattle.links.proofs.Going.{answers_more, goes_on, turn_more, turns_all}
 use Rattle.links.proofs.link.Link.serve_all.Given as given
 use Rattle.links.proofs.link.Link.serve_all.Goals as goal
 
@@ -22,7 +22,7 @@ pub loop-request-preserved : goal.loop-request-preserved
 loop-request-preserved g c =
     let i = c.loop-request.invariant in (
       i.0 ++ c.serve.result ∷ [],
-      c.push.ensures.items ∙ ap (λ (z : List Answer). z ++ c.serve.result ∷ []) i.1 ∙ append_assoc c.args.answers.now.items i.0 (c.serve.result ∷ []),
+      c.push.ensures.items ∙ answers_more c.args.answers.now.items c.loop-request.answers.items i.0 c.serve.result i.1,
       length_push i.0 c.serve.result ∙ ap (λ (n : ℕ). n + 1) i.2,
       turn_more _ _ _ _ _ _ _ c.args.requests.now i.0 c.loop-request.request-index _ _ c.loop-request-test.true i.3 c.serve.ensures.exact,
     )
