@@ -1,7 +1,6 @@
-use Rattle.std.proofs.Common.{refl, sym, ap, ◌∙◌, arith, append_assoc, append-nil, [], ℕ, ◌+◌, List, ◌∷◌, ◌++◌}
+use Rattle.std.proofs.Common.{refl, sym, ap, ◌∙◌, arith, append-nil, [], ℕ, ◌+◌, ◌∷◌, ◌++◌}
 use Rattle.links.specs.Links.{sight, ServedAt}
 use Rattle.std.proofs.lemmas.List.{length_push}
-use Rattle.calls.specs.declared.call.Answer.{Answer}
 use Rattle.links.specs.Turns.{InTurn, none_served}
 use Rattle.links.proofs.Making.{link_law}
 use Rattle.links.proofs.Going.{answers_more, goes_on, turn_more, turns_all}
