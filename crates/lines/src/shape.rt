@@ -5,7 +5,7 @@ ghost use Rattle.lines.specs.Layout.{Layout, Lawful};
 use std::convert::AsSlice;
 
 // How strings are laid down and found again.
-pub trait Shape {
+pub(crate) trait Shape {
     // What stands before a string.
     type Head: AsSlice<u8> + Copy;
 

@@ -29,7 +29,7 @@ use Rattle.runs.specs.Links.{Strings, Place, Takes, current, acknowledged, hear,
 use Rattle.runs.proofs.Rings.{Is, Same}
 use Rattle.runs.proofs.Senders.{SenderIs}
 use Rattle.runs.proofs.Receivers.{ReceiverIs}
-use Rattle.runs.proofs.Acks.{AckIs, ack_is, as_place, box_if}
+use Rattle.runs.proofs.Acks.{AckIs, ack_is, as_place, box_if, place_if}
 use Rattle.runs.proofs.Currents.{acknowledged_none, current_moves}
 use Rattle.runs.proofs.Spoils.{spoiled_refused}
 use Rattle.runs.proofs.Says.{Says, says_nothing, says_response, says_block, AllSay, none_waits, one_waits, parted, fields_heard}
@@ -70,7 +70,7 @@ module _ (w : Ways) (L : WayLaws w.out) (told : ℕ → Status) (m : Model) wher
     where
       go : (b : Bool) → (names a m.outbox.put && current_out m.outbox.cells) ≡ b → AckIs w.out.text.room L.counted w.out.own told m.outbox g c ph p s a' b →
           CountedIs g c ph p s a a' (cond b (with_outbox m (box_if w.out.text.room L.counted w.out.own true m.outbox)) m)
-      go true e K = record {
+      go b e K = subst (CountedIs g c ph p s a a') (model_after b) record {
         called_after = K.called_after;
         phase_after = K.phase_after;
         spent_after = K.spent_after;
@@ -79,20 +79,17 @@ module _ (w : Ways) (L : WayLaws w.out) (told : ℕ → Status) (m : Model) wher
         is = K.is;
         inbox = refl;
         settings = refl;
-        place_is = K.place_is ∙
-            sym (ap (λ (b : Bool). cond b None (current m)) (current_moves w.out.text.room L.counted g 1 m.outbox.numbered m.outbox.cells S.between S.holds S.orderly (both_right (names a m.outbox.put) (current_out m.outbox.cells) e)));
+        place_is = K.place_is ∙ sym (place_of b e);
       }
-      go false e K = record {
-        called_after = K.called_after;
-        phase_after = K.phase_after;
-        spent_after = K.spent_after;
-        place = K.place;
-        counts = K.counts;
-        is = K.is;
-        inbox = refl;
-        settings = refl;
-        place_is = K.place_is ∙ sym (acknowledged_none m m refl);
-      }
+        where
+          model_after : (b : Bool) → with_outbox m (box_if w.out.text.room L.counted w.out.own b m.outbox) ≡ cond b (with_outbox m (box_if w.out.text.room L.counted w.out.own true m.outbox)) m
+          model_after true = refl
+          model_after false = refl
+
+          place_of : (b : Bool) → (names a m.outbox.put && current_out m.outbox.cells) ≡ b →
+              acknowledged m (with_outbox m (box_if w.out.text.room L.counted w.out.own b m.outbox)) ≡ place_if b m.outbox.cells
+          place_of true e = ap (λ (b : Bool). cond b None (current m)) (current_moves w.out.text.room L.counted g 1 m.outbox.numbered m.outbox.cells S.between S.holds S.orderly (both_right (names a m.outbox.put) (current_out m.outbox.cells) e))
+          place_of false e = acknowledged_none m m refl
 
 -- a block's text has at most 220 message characters
 pub short : (w : Way) → OpeningLaws w.text → (h : Head) (l t : List ℕ) (e : Bool) → Sound w (message h l e t) → length (drop w.text.opening t) ≤ 220
