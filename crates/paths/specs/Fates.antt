@@ -10,7 +10,7 @@ fate_of n = cond (n == 0) Lost (cond (n == 2) Twice (cond (n == 3) Spoiled Intac
 
 -- The fates of a store that are yet to come.
 abbrev pub coming : Fates → List Fate
-coming f = f.held.items
+coming f = f.held
 
 -- The next fate; once all are spent, intact.
 abbrev pub next : List Fate → Fate

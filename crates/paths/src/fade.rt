@@ -74,7 +74,8 @@ fn fade<P: AirPath>(below: &mut P, fate: Fate, s: &[u8]) -> Result<(), PathFault
             below.put(s)
         }
         Fate::Spoiled => {
-            let mut copy = ArrayVec::<u8, 256>::try_from(s).unwrap();
+            let mut copy = ArrayVec::<u8, 256>::new();
+            copy.try_extend_from_slice(s).unwrap();
             copy[0] = 0;
             below.put(&copy)
         }

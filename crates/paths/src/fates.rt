@@ -2,7 +2,7 @@
 ghost use Rattle.std.specs.Prelude.{◌≡◌, map, take};
 ghost use Rattle.paths.specs.Fates.{fate_of, coming, next, later};
 
-use arrayvec::ArrayVec;
+use arrayvec::{ArrayVec, IntoIter};
 
 // What befalls a string.
 #[derive(Clone, Copy, Default)]
@@ -29,10 +29,10 @@ impl From<u8> for Fate {
     }
 }
 
-// At most 64 fates, the next one first.
+// At most 64 fates, the next one first: an iterator, so that spending one moves no other.
 #[derive(Drop)]
 pub(crate) struct Fates {
-    held: ArrayVec<Fate, 64>,
+    held: IntoIter<Fate, 64>,
 }
 
 impl Fates {
@@ -44,7 +44,9 @@ impl Fates {
         for n in numbers.iter().take(64) {
             held.push(Fate::from(*n));
         }
-        Fates { held }
+        Fates {
+            held: held.into_iter(),
+        }
     }
 
     // Spends the next fate.
@@ -52,6 +54,6 @@ impl Fates {
         ensures fate { result ≡ next (coming self.old) }
         ensures rest { coming self.new ≡ later (coming self.old) }
     {
-        self.held.pop_at(0).unwrap_or_default()
+        self.held.next().unwrap_or_default()
     }
 }

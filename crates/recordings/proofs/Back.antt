@@ -5,7 +5,7 @@ use Rattle.std.proofs.lemmas.List.{ext_get_or}
 use Rattle.std.proofs.lemmas.Bool.Decides.{nat_tests}
 use Rattle.std.specs.Char.{digit_value}
 use Rattle.recordings.specs.declared.heading.Heading.{Heading}
-use Rattle.recordings.specs.Recorded.{letter, hex_digit, Digit, Spells, LineOf}
+use Rattle.recordings.specs.Recorded.{letter, hex_digit, Digit, Spells, LineOf, string_of}
 use Rattle.recordings.specs.Laws.{hex_of, LinesStand, LinesReadBack}
 use Rattle.recordings.specs.declared.heading.Heading.TheVariants.{Down, Up}
 
@@ -41,8 +41,8 @@ line_apart h k s t line a b =
 pub lines_read_back : LinesReadBack
 lines_read_back line None none = (λ h string is. none h string is, λ un. refl)
 lines_read_back line (Some r) read = (
-  λ h string is. line_apart r.heading h r.string.items string line read is,
-  λ un. absurd (un r.heading r.string.items read),
+  λ h string is. line_apart r.heading h (string_of r.string) string line read is,
+  λ un. absurd (un r.heading (string_of r.string) read),
 )
 
 -- the digits of a string, place by place

@@ -4,7 +4,7 @@ use Rattle.std.specs.Prelude.{◌≡◌, ℕ, ◌+◌, ◌/◌, ◌%◌, ◌<◌
 use Rattle.std.specs.List.{AllByRecursion}
 use Rattle.recordings.specs.declared.heading.Heading.{Heading}
 use Rattle.recordings.specs.declared.heading.Recorded.{Recorded}
-use Rattle.recordings.specs.Recorded.{letter, hex_digit, LineOf, Unread, Reading}
+use Rattle.recordings.specs.Recorded.{letter, hex_digit, LineOf, Unread, Reading, string_of}
 
 -- the hex digits of a string; capital says of each digit, by its place, whether a letter is a capital
 abbrev pub hex_of : (ℕ → Bool) → List ℕ → List ℕ
@@ -24,7 +24,7 @@ LinesStand =
 -- the line was read as this direction and this string
 abbrev pub ReadAs : Heading → List ℕ → Option Recorded → Type 0
 ReadAs h string None = ⊥
-ReadAs h string (Some r) = (r.heading ≡ h) × (r.string.items ≡ string)
+ReadAs h string (Some r) = (r.heading ≡ h) × (string_of r.string ≡ string)
 
 -- the line of a string reads back as exactly that direction and string; every other line is unread
 abbrev pub LinesReadBack : Type 0

@@ -1,9 +1,10 @@
 -- Input lines: the line of a recorded string, and what reading a line answers.
 -- Assumes nothing.
-use Rattle.std.specs.Prelude.{◌≡◌, ℕ, ◌+◌, ◌*◌, ◌/◌, ◌%◌, ◌<◌, ◌≤◌, Bool, true, false, cond, ◌⊎◌, List, length, Some, None, Option, nat_lt, slice_index, slice_index_or}
+use Rattle.std.specs.Prelude.{◌≡◌, ℕ, ◌+◌, ◌*◌, ◌/◌, ◌%◌, ◌<◌, ◌≤◌, Bool, true, false, cond, ◌⊎◌, List, length, take, Some, None, Option, nat_lt, slice_index, slice_index_or}
 use Rattle.recordings.specs.declared.heading.Heading.{Heading}
 use Rattle.recordings.specs.declared.heading.Heading.TheVariants.{Down, Up}
 use Rattle.recordings.specs.declared.heading.Recorded.{Recorded}
+use Rattle.recordings.specs.declared.string.RecordedString.{RecordedString}
 
 -- the letter of a direction: D or U
 abbrev pub letter : Heading → ℕ
@@ -36,7 +37,11 @@ pub record LineOf (h : Heading) (string line : List ℕ) : Type 0 where
 abbrev pub Unread : List ℕ → Type 0
 Unread line = (h : Heading) (string : List ℕ) → LineOf h string line → ⊥
 
+-- the octets of a string that was read
+abbrev pub string_of : RecordedString → List ℕ
+string_of s = take s.used s.octets
+
 -- what reading a line answers
 abbrev pub Reading : List ℕ → Option Recorded → Type 0
 Reading line None = Unread line
-Reading line (Some r) = LineOf r.heading r.string.items line
+Reading line (Some r) = LineOf r.heading (string_of r.string) line

@@ -1,7 +1,6 @@
 -- What the steps of reading a line answer.
 -- Assumes nothing.
 use Rattle.std.specs.Prelude.{◌≡◌, ℕ, ◌+◌, ◌*◌, ◌<◌, ◌≤◌, List, length, Some, None, Option, Result, MatchResult, ◌≢◌, slice_index}
-use Rattle.arrayvec.specs.ArrayVec.{ArrayVec}
 use Rattle.recordings.specs.declared.heading.Heading.{Heading}
 use Rattle.recordings.specs.declared.heading.NoHeading.{NoHeading}
 use Rattle.recordings.specs.Recorded.{letter, Digit, Spells}
@@ -27,6 +26,6 @@ pub record DigitsOf (string digits : List ℕ) : Type 0 where
   pub spelled : (i : ℕ) → i < length string → Spells (slice_index digits (2 * i)) (slice_index digits (1 + 2 * i)) (slice_index string i)
 
 -- what hex digits say: a string, or none where they are those of none
-abbrev pub Decoded : List ℕ → Option (ArrayVec ℕ) → Type 0
+abbrev pub Decoded : List ℕ → Option (List ℕ) → Type 0
 Decoded digits None = (string : List ℕ) → DigitsOf string digits → ⊥
-Decoded digits (Some v) = DigitsOf v.items digits
+Decoded digits (Some string) = DigitsOf string digits

@@ -1,5 +1,5 @@
 // What an input line says: the direction of a string, and the string.
-use arrayvec::ArrayVec;
+use crate::string::RecordedString;
 use thiserror::Error;
 
 // The direction in which a string was sent: from the aircraft or to it.
@@ -47,8 +47,8 @@ impl TryFrom<u8> for Heading {
 }
 
 // A line that was read: its direction and its string.
-#[derive(Clone, Drop)]
+#[derive(Clone, Copy)]
 pub struct Recorded {
     pub heading: Heading,
-    pub string: ArrayVec<u8, 511>,
+    pub string: RecordedString,
 }

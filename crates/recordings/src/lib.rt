@@ -6,8 +6,10 @@ mod hex;
 mod laws;
 mod reading;
 mod splitter;
+mod string;
 
 pub use heading::{Heading, NoHeading, Recorded};
 pub use laws::lines_stand;
 pub use reading::read_line;
 pub use splitter::Splitter;
+pub use string::RecordedString;

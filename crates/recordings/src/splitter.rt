@@ -63,7 +63,10 @@ impl Splitter {
     pub fn restart(&mut self)
         ensures { self.new ≡ Some [] }
     {
-        *self = Splitter::new();
+        match &mut self.line {
+            Some(line) => line.clear(),
+            None => self.line = Some(ArrayVec::new()),
+        }
     }
 
     // Adds octets to the line.

@@ -16,9 +16,9 @@ impl AnswerLine {
     pub fn answer(&mut self, count: u64, line: Option<&[u8]>)
         ensures { (p : List ℕ) → option_map (λ x. x.now) line.entry ≡ told p → Answered p count self.new }
     {
-        match line.and_then(|line| read_line(line)) {
+        match &line.and_then(|line| read_line(line)) {
             Some(Recorded { heading, string }) => {
-                self.print_fitting(count, heading, read_string(heading, string.as_slice()))
+                self.print_fitting(count, *heading, read_string(*heading, string.as_slice()))
             }
             None => self.print_unread(count),
         }

@@ -23,4 +23,6 @@ loop-n-preserved c =
     search rules
 
 pub returns : goal.returns
-returns c = no_more c.loop-n.held.items c.loop-n.n-iterator.n c.loop-n.n-iterator.iter.rest.now _ (λ h. (c.in-None.ensures.steps h).0) c.loop-n.invariant.read
+returns c =
+    let handed : c.into_iter.result ≡ c.loop-n.held.items = search rules in
+    handed ∙ no_more c.loop-n.held.items c.loop-n.n-iterator.n c.loop-n.n-iterator.iter.rest.now _ (λ h. (c.in-None.ensures.steps h).0) c.loop-n.invariant.read

@@ -1,8 +1,9 @@
 -- The pairs are the digits, two by two.
 use Rattle.std.proofs.Common.{rules, ◌≡◌, ◌++◌, ◌∷◌, ◌<◌, [], length, get_or, ap, arith, below_more, length-append}
 use Rattle.std.proofs.lemmas.List.{get_or_push, get_or_append_left}
+use Rattle.recordings.specs.Recorded.{string_of}
 use Rattle.recordings.proofs.Strings.{pair_at}
-use Rattle.recordings.proofs.reading.decode.Goals as goal
+use Rattle.recordings.proofs.string.RecordedString.decode.Goals as goal
 
 pub returns-in_err-octet : goal.returns-in_err-octet
 returns-in_err-octet c =
@@ -14,8 +15,8 @@ returns-in_err-octet c =
 
 pub loop-high-preserved : goal.loop-high-preserved
 loop-high-preserved c =
-    let before = c.loop-high.string.items in
-    let pushed : c.try_push.new.self.items ≡ before ++ (c.in_ok-octet.octet ∷ []) = search rules in
+    let before = string_of c.loop-high.self in
+    let pushed : string_of c.push.new.self ≡ before ++ (c.in_ok-octet.octet ∷ []) = search rules in
     let (long, short, spelled) = c.loop-high.invariant in (
       omega (arith, ap length pushed, length-append before (c.in_ok-octet.octet ∷ [])),
       search rules,
