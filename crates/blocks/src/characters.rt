@@ -46,7 +46,8 @@ pub fn is_label(character: u8) -> bool
 pub fn is_text(character: u8) -> bool
     ensures { result ≡ is_text character }
 {
-    matches!(character, b' '..=b'~' | b'\n' | b'\r')
+    // The range comes first: one match over all three compares with LF and CR before it, at each ordinary character.
+    matches!(character, b' '..=b'~') || matches!(character, b'\n' | b'\r')
 }
 
 // Whether a character may stand at an index of the text after the one before.

@@ -1,5 +1,5 @@
 // The string of a block, laid part by part.
-ghost use Rattle.std.specs.Prelude.{◌≡◌, ◌+◌, ◌≤◌, ◌∷◌, ◌++◌, map, length};
+ghost use Rattle.std.specs.Prelude.{◌≡◌, ◌+◌, ◌≤◌, [], ◌∷◌, ◌++◌, map, length, drop};
 ghost use Rattle.blocks.specs.Fields.{acknowledgment_character, fields_given, laid, named, tailed, text_of};
 ghost use Rattle.writing.specs.Laying.{Lengths, laid_octet, enclosed_by};
 
@@ -38,35 +38,47 @@ fn lay_rest(string: &mut ArrayVec<u8, 238>, last: bool, text: &[u8])
     lay(string, &[if last { ETX } else { ETB }]);
 }
 
-// The string up to its check: SOH, the head and the rest.
-fn opened(block: &Block<'_>) -> ArrayVec<u8, 238>
+// Lays the string up to its check: SOH, the head and the rest.
+fn lay_opened(string: &mut ArrayVec<u8, 238>, block: &Block<'_>)
+    requires empty { string.old.items ≡ [] }
     requires lengths { Lengths (fields_given block.now) }
     requires limit { length (text_of (fields_given block.now)) ≤ 220 }
-    ensures { result.items ≡ map laid_octet (1 ∷ laid (fields_given block.now)) }
+    ensures { string.new.items ≡ map laid_octet (1 ∷ laid (fields_given block.now)) }
 {
-    let mut string = ArrayVec::new();
-    lay(&mut string, &[SOH, MODE]);
-    lay(&mut string, block.address());
-    lay(
-        &mut string,
-        &[acknowledgment_character(block.acknowledgment())],
-    );
-    lay(&mut string, block.label());
-    lay(&mut string, &[block.identifier().0]);
-    lay_rest(&mut string, block.is_last(), block.text());
-    string
+    lay(string, &[SOH, MODE]);
+    lay(string, block.address());
+    lay(string, &[acknowledgment_character(block.acknowledgment())]);
+    lay(string, block.label());
+    lay(string, &[block.identifier().0]);
+    lay_rest(string, block.is_last(), block.text());
 }
 
-// The whole string: behind its rest the check of what stands behind SOH, low octet first, and DEL.
-pub(crate) fn string_of(block: &Block<'_>) -> ArrayVec<u8, 238>
+// Lays the whole string: behind its rest the check of what stands behind SOH, low octet first, and DEL.
+fn lay_string(string: &mut ArrayVec<u8, 238>, block: &Block<'_>)
+    requires empty { string.old.items ≡ [] }
     requires lengths { Lengths (fields_given block.now) }
     requires limit { length (text_of (fields_given block.now)) ≤ 220 }
-    ensures { result.items ≡ enclosed_by (laid (fields_given block.now)) }
+    ensures { string.new.items ≡ enclosed_by (laid (fields_given block.now)) }
 {
-    let mut string = opened(block);
+    lay_opened(string, block);
     let [low, high] = check(&string[1..]).to_le_bytes();
     string.push(low);
     string.push(high);
     string.push(DEL);
-    string
+}
+
+// Lays the string at the start of a buffer, keeps what stands behind it, and answers its length.
+// The vector is made here, so that a block that is refused does not pay for it, and no call hands it on by value.
+pub(crate) fn lay_out(block: &Block<'_>, buffer: &mut [u8]) -> usize
+    requires room { 238 ≤ length buffer.old }
+    requires lengths { Lengths (fields_given block.now) }
+    requires limit { length (text_of (fields_given block.now)) ≤ 220 }
+    ensures long { result ≡ length (enclosed_by (laid (fields_given block.now))) }
+    ensures after { buffer.new ≡ enclosed_by (laid (fields_given block.now)) ++ drop result buffer.old }
+{
+    let mut string = ArrayVec::new();
+    lay_string(&mut string, block);
+    let length = string.len();
+    buffer[..length].copy_from_slice(&string);
+    length
 }

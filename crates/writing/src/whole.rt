@@ -4,7 +4,7 @@ ghost use Rattle.writing.specs.Writing.{Writes};
 ghost use Rattle.blocks.specs.Legal.{way};
 
 use crate::fields::test_fields;
-use crate::laying::string_of;
+use crate::laying::lay_out;
 use blocks::{Block, BlockFault};
 use directions::Direction;
 
@@ -17,8 +17,5 @@ pub fn write<D: Direction>(block: &Block<'_>, buffer: &mut [u8]) -> Result<usize
         return Err(BlockFault::Buffer);
     }
     test_fields::<D>(block)?;
-    let string = string_of(block);
-    let length = string.len();
-    buffer[..length].copy_from_slice(&string);
-    Ok(length)
+    Ok(lay_out(block, buffer))
 }

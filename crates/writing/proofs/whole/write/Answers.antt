@@ -1,5 +1,5 @@
-use Rattle.std.proofs.Common.{◌≡◌, ℕ, ◌++◌, List, length, drop, ap, ◌∙◌}
-use Rattle.blocks.specs.Fields.{fields_given, written}
+use Rattle.std.proofs.Common.{ℕ, ◌++◌, List, length, drop, ap, ◌∙◌}
+use Rattle.blocks.specs.Fields.{fields_given}
 use Rattle.blocks.specs.Legal.{Way}
 use Rattle.blocks.proofs.Shapes.{Lawful}
 use Rattle.writing.proofs.Written.{laid_as}
@@ -16,11 +16,10 @@ pub returns : goal.returns
 returns g c =
     let f = fields_given c.args.block.now in
     let s = c.in_ok-test_fields.ensures in
-    let e : c.string_of-string.result.items ≡ written f = c.string_of-string.ensures ∙ laid_as (way g) (lawful g) f s in
-    let w : c.copy_from_slice.new.self ≡ written f = c.copy_from_slice.ensures.after ∙ c.deref.ensures.0 ∙ e in
+    let e = laid_as (way g) (lawful g) f s in
     record {
       room = c.if-buffer-lt238.false;
       sound = s;
-      long = c.len-length.ensures.value ∙ ap length e;
-      holds = ap (λ (xs : List ℕ). xs ++ drop c.len-length.result c.args.buffer.now) w;
+      long = c.lay_out.ensures.long ∙ ap length e;
+      holds = c.lay_out.ensures.after ∙ ap (λ (xs : List ℕ). xs ++ drop c.lay_out.result c.args.buffer.now) e;
     }

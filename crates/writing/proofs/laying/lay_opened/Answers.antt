@@ -1,7 +1,7 @@
 use Rattle.std.proofs.Common.{◌≡◌, ℕ, ◌∷◌, [], Bool, refl, ap, ◌∙◌}
 use Rattle.blocks.specs.Fields.{fields_given, head_of, label_of, last_of, text_of, tailed, acknowledgment_character}
 use Rattle.writing.proofs.Laid.{on, parts_laid}
-use Rattle.writing.proofs.laying.opened.Goals as goal
+use Rattle.writing.proofs.laying.lay_opened.Goals as goal
 
 pub returns : goal.returns
 returns c =
@@ -9,7 +9,7 @@ returns c =
     let k : c.acknowledgment_character.result ≡ acknowledgment_character (head_of f).acknowledgment = c.acknowledgment_character.ensures ∙ ap acknowledgment_character c.acknowledgment.ensures in
     let r : tailed c.is_last.result c.text.result.now ≡ tailed (last_of f) (text_of f) =
     ap (λ (b : Bool). tailed b c.text.result.now) c.is_last.ensures ∙ ap (tailed (last_of f)) c.text.ensures in
-    let s₁ = on (1 ∷ 50 ∷ []) c.lay.ensures c.new-string.ensures refl in
+    let s₁ = on (1 ∷ 50 ∷ []) c.lay.ensures c.requires.empty refl in
     let s₂ = on c.address.result.now c.lay-2.ensures s₁ c.address.ensures in
     let s₃ = on (c.acknowledgment_character.result ∷ []) c.lay-3.ensures s₂ (ap (λ (z : ℕ). z ∷ []) k) in
     let s₄ = on c.label.result.now c.lay-4.ensures s₃ c.label.ensures in
