@@ -42,7 +42,7 @@ impl RecordedString {
     pub fn len(&self) -> usize
         ensures { result ≡ length (string_of self.now) }
     {
-        self.used
+        self.as_slice().len()
     }
 
     // Adds an octet.
