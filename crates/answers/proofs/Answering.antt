@@ -54,9 +54,10 @@ told_some p l e = sym (cond_some (leb (length p) 1024) p l (sym e)).1
 told_none : (p : List ℕ) → ◌≡◌ {A = Option (List ℕ)} None (told p) → 1024 < length p
 told_none p e = grind (arith, nat_tests)
 
--- what is kept of a line is no string's, or the line is too long for any
-pub unread_kept :
-    (line : Option (Bor (List ℕ))) (p : List ℕ) → option_map (λ (x : Bor (List ℕ)). x.now) line ≡ told p →
-    ((l : Bor (List ℕ)) → line ≡ Some l → Unread l.now) → Unread p
-unread_kept (Some l) p e none h string is = subst Unread (told_some p l.now e) (none l refl) h string is
-unread_kept None p e none h string is = let long = told_none p e in omega (arith, is.short, is.long)
+-- the answer to what is kept of a line is the answer to the line
+pub answered_kept : (line p : List ℕ) (count : ℕ) (text : List ℕ) → Some line ≡ told p → Answered line count text → Answered p count text
+answered_kept line p count text e a = subst (λ (l : List ℕ). Answered l count text) (told_some p line e) a
+
+-- a line that is too long is no string's
+pub answered_over : (p : List ℕ) (count : ℕ) (text : List ℕ) → ◌≡◌ {A = Option (List ℕ)} None (told p) → text ≡ printed count unread → Answered p count text
+answered_over p count text e = answered_unread p count text (λ h string is. let long = told_none p e in omega (arith, is.short, is.long))

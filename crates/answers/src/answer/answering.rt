@@ -16,7 +16,17 @@ impl AnswerLine {
     pub fn answer(&mut self, count: u64, line: Option<&[u8]>)
         ensures { (p : List ℕ) → option_map (λ x. x.now) line.entry ≡ told p → Answered p count self.new }
     {
-        match &line.and_then(|line| read_line(line)) {
+        match line {
+            Some(line) => self.answer_line(count, line),
+            None => self.print_unread(count),
+        }
+    }
+
+    // The same of a line that is not too long. What was read is matched where it lies, and not handed on by value.
+    fn answer_line(&mut self, count: u64, line: &[u8])
+        ensures { Answered line.now count self.new }
+    {
+        match &read_line(line) {
             Some(Recorded { heading, string }) => {
                 self.print_fitting(count, *heading, read_string(*heading, string.as_slice()))
             }
