@@ -1,5 +1,5 @@
 -- Parts added one after another, as far as there is room.
-use Rattle.std.proofs.Common.{◌≡◌, ℕ, suc, zero, ◌+◌, ◌<◌, min, List, [], ◌∷◌, ◌++◌, map, length, get_or, take, ap, sym, refl, ◌∙◌, arith}
+use Rattle.std.proofs.Common.{◌≡◌, ℕ, suc, zero, ◌+◌, ◌<◌, min, List, [], ◌∷◌, ◌++◌, map, length, get_or, take, ap, sym, refl, ◌∙◌, arith, take_all, length-append, append-nil}
 use Rattle.std.specs.List.{flat_map}
 use Rattle.std.proofs.Math.Seq.{take-append-add}
 use Rattle.std.proofs.lemmas.List.{take_min, flat_map_more, map_more}
@@ -23,6 +23,13 @@ pub added : (xs ys : List ℕ) (n room : ℕ) → room + length xs ≡ n → xs 
 added xs ys n room fits =
     let whole : length xs + room ≡ n = omega arith in
     ap (λ (zs : List ℕ). xs ++ zs) (take_min room ys) ∙ sym (take-append-add xs ys room) ∙ ap (λ (k : ℕ). take k (xs ++ ys)) whole
+
+-- one octet, where there is room for it and where there is none
+pub octet_added : (xs : List ℕ) (o : ℕ) → length xs < 512 → xs ++ (o ∷ []) ≡ cut (xs ++ (o ∷ []))
+octet_added xs o room = sym (take_all 512 (xs ++ (o ∷ [])) (omega (arith, length-append xs (o ∷ []))))
+
+pub octet_cut : (xs : List ℕ) (o : ℕ) → length xs ≡ 512 → xs ≡ cut (xs ++ (o ∷ []))
+octet_cut xs o full = let none : 0 + length xs ≡ 512 = omega arith in sym (append-nil xs) ∙ added xs (o ∷ []) 512 0 none
 
 -- a part more behind what is known to have been added
 pub added_more : (s t a b : List ℕ) → t ≡ cut (s ++ b) → cut s ≡ cut a → t ≡ cut (a ++ b)

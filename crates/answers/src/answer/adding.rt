@@ -43,6 +43,15 @@ impl AnswerLine {
         self.octets.try_extend_from_slice(&part[..room]).unwrap();
     }
 
+    // Adds one octet.
+    fn add_octet(&mut self, octet: u8)
+        ensures { Adds self.old (octet ∷ []) self.new }
+    {
+        if self.octets.remaining_capacity() > 0 {
+            self.octets.push(octet);
+        }
+    }
+
     // Adds a comma, and a part behind it.
     pub(crate) fn add_part(&mut self, part: &[u8])
         ensures { Adds self.old (44 ∷ part.now) self.new }
@@ -59,7 +68,7 @@ impl AnswerLine {
         self.add(b",");
         // A loop: with the array's `map` it was tried, and its demand that N is below 2 ^ 63 stayed open.
         for octet in octets {
-            self.add(&[character_of(*octet)]);
+            self.add_octet(character_of(*octet));
         }
     }
 
@@ -71,7 +80,7 @@ impl AnswerLine {
             b'\n' => self.add(b"\\n"),
             b'\r' => self.add(b"\\r"),
             b'\\' => self.add(b"\\\\"),
-            _ => self.add(&[character]),
+            _ => self.add_octet(character),
         }
     }
 

@@ -10,7 +10,7 @@ pub loop-octet-preserved : goal.loop-octet-preserved
 loop-octet-preserved g c =
     let below : c.loop-octet.octet-index < length c.args.octets.now = omega arith in
     let more = characters_more c.args.octets.now c.loop-octet.octet-index c.character_of.result c.character_of.ensures below in
-    rw (c.add-in-loop-octet.ensures, c.loop-octet.invariant, ← more) (simp (cut_then, append_assoc))
+    rw (c.add_octet.ensures, c.loop-octet.invariant, ← more) (simp (cut_then, append_assoc))
 
 pub returns-clause-added : goal.returns-clause-added
 returns-clause-added g c =
