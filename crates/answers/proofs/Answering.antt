@@ -1,6 +1,5 @@
 -- The answer to an input line.
-use Rattle.std.proofs.Common.{◌≡◌, ℕ, ◌+◌, ◌<◌, true, ◌&&◌, ◌||◌, ltb, leb, List, map, length, Some, None, Ok, Err, Option, Result, sym, refl, subst, arith, Bor}
-use Rattle.std.specs.Option.{option_map}
+use Rattle.std.proofs.Common.{◌≡◌, ℕ, ◌+◌, ◌<◌, true, ◌&&◌, ◌||◌, ltb, leb, List, map, length, Some, None, Ok, Err, Option, Result, sym, refl, subst, arith}
 use lib.ListN.{length-map}
 use Rattle.std.proofs.lemmas.Option.{cond_some}
 use Rattle.std.proofs.lemmas.Bool.Decides.{nat_tests}

@@ -15,7 +15,7 @@ pub struct RecordedString {
 }
 
 impl RecordedString {
-    ghost use Rattle.std.specs.Prelude.{◌<◌, [], ◌∷◌, ◌++◌, take};
+    ghost use Rattle.std.specs.Prelude.{◌<◌, [], ◌∷◌, ◌++◌};
     ghost use Rattle.std.specs.Option.{option_map};
     ghost use Rattle.recordings.specs.Recorded.{string_of};
     ghost use Rattle.recordings.specs.Steps.{Decoded};
@@ -54,7 +54,7 @@ impl RecordedString {
         self.used += 1;
     }
 
-    // Adds the octets that hex digits spell to none; none where they spell no string.
+    // Adds to an empty string the octets that hex digits spell. Answers None where they spell no string: what was added by then says nothing.
     pub(crate) fn decode(&mut self, digits: &[u8]) -> Option<()>
         requires { string_of self.old ≡ [] }
         ensures { Decoded digits.now (option_map (λ u. string_of self.new) result) }
