@@ -36,7 +36,7 @@ part_chars s a m h =
 
 module _ (w : Way) (l : Lawful w) (s : List ℕ) (f : FrameKept s) where
   -- a head that breaks a rule is refused by 7
-  pub head_refused : (x : BlockFault) → HeadBroken w s 1 x → Refusal w s (number_of x) (place_of x)
+  pub head_refused : (x : BlockFault) → HeadBroken w s 1 13 x → Refusal w s (number_of x) (place_of x)
   head_refused x (p, e, h, b) =
       subst (λ (y : BlockFault). Refusal w s (number_of y) (place_of y)) (sym e)
       (record {

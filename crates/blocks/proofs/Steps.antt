@@ -36,7 +36,7 @@ module _ (w : Way) (n : ℕ) (s : List ℕ) where
   address_rule p before c l u = grind (arith, nat_tests)
 
 -- a part is kept, and the next is broken
-pub broken_on : (w : Way) (s : List ℕ) (a b : ℕ) (f : BlockFault) → a ≤ b → Kept w 17 (ch s) a b → HeadBroken w s b f → HeadBroken w s a f
-broken_on w s a b f l k (p, e, u, x) =
+pub broken_on : (w : Way) (s : List ℕ) (a b c d : ℕ) (f : BlockFault) → a ≤ b → c ≤ d → Kept w 17 (ch s) a b → HeadBroken w s b c f → HeadBroken w s a d f
+broken_on w s a b c d f l m k (p, e, u, x) =
     let v = x.from in
-    (p, e, u, record { from = omega arith; kept = kept_on w 17 s a b p k x.kept; broken = x.broken })
+    (p, e, omega arith, record { from = omega arith; kept = kept_on w 17 s a b p k x.kept; broken = x.broken })

@@ -68,14 +68,14 @@ pub record BrokenAt (w : Way) (n : ℕ) (s : List ℕ) (a p : ℕ) : Type 0 wher
   pub kept : Kept w n (ch s) a p
   pub broken : place_rule w n p (ch s (p - 1)) (ch s p) ≡ false
 
--- a refusal of the head at the first place from a on that breaks its rule
-abbrev pub HeadBroken : Way → List ℕ → ℕ → BlockFault → Type 0
-HeadBroken w s a f = (p : ℕ) × (f ≡ Head p) × (p < 13) × BrokenAt w 17 s a p
+-- a refusal of the head at the first place from a up to b, which is left out, that breaks its rule
+abbrev pub HeadBroken : Way → List ℕ → ℕ → ℕ → BlockFault → Type 0
+HeadBroken w s a b f = (p : ℕ) × (f ≡ Head p) × (p < b) × BrokenAt w 17 s a p
 
 -- what reading the head from place a up to b, which is left out, answers: a value that Is the one there, or the first place that breaks its rule
 abbrev pub PartRead : {A : Type 0} → Way → List ℕ → ℕ → ℕ → (A → Type 0) → Result A BlockFault → Type 0
 PartRead w s a b Is (Ok x) = Kept w 17 (ch s) a b × Is x
-PartRead w s a b Is (Err f) = HeadBroken w s a f
+PartRead w s a b Is (Err f) = HeadBroken w s a b f
 
 -- the label of a message; none where the string has a response's
 abbrev pub LabelIs : List ℕ → Option (Bor (List ℕ)) → Type 0

@@ -8,8 +8,11 @@ use Rattle.directions.specs.TextRules.{OpeningLaws, OpenerLaws, down_text, down_
 abbrev filler : ℕ → ℕ
 filler i = cond (i == 1) 49 (cond (i == 2) 49 65)
 
+filled : (i before : ℕ) → down_allows i before (filler i) ≡ true
+filled i before = grind (arith, nat_tests)
+
 pub down_opens : OpeningLaws down_text
-down_opens = record { full = refl; seven = λ i before c h. grind (arith, nat_tests); fillable = λ i. (filler i, λ before h. grind (arith, nat_tests)) }
+down_opens = record { full = refl; seven = λ i before c h. grind (arith, nat_tests); fillable = λ i. (filler i, λ before h. filled i before) }
 
 down_says : (o : ℕ) (flight : List ℕ) (n i : ℕ) (rest : List ℕ) → length flight ≡ 6 → i < 16 → down_reads (down_opener o flight n i ++ rest) ≡ down_mark o n i
 down_says o flight n i rest e h =

@@ -1,2 +1,3 @@
+pub mod Adding
 pub mod Outcomes
 pub mod Using

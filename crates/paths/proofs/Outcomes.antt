@@ -67,7 +67,7 @@ same_sight : {V : Type 0} (w x : FadeSight V) → w.fates ≡ x.fates → w.belo
 same_sight {V} w x p q = ap (λ (f : List Fate). sight f w.below) p ∙ ap (λ (v : V). sight x.fates v) q
 
 -- A spoiled string keeps its length.
-spoiled_sized : (s : List ℕ) → Sized s → Sized (spoiled s)
+pub spoiled_sized : (s : List ℕ) → Sized s → Sized (spoiled s)
 spoiled_sized [] z = z
 spoiled_sized (x ∷ s) z = record { some = z.some; most = z.most }
 

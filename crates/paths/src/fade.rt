@@ -64,6 +64,7 @@ impl<P: AirPath> AirPath for FadeBox<P> {
 fn fade<P: AirPath>(below: &mut P, fate: Fate, s: &[u8]) -> Result<(), PathFault>
     requires { Sized s.now }
     ensures meaning { Puts Added (P.AirPath.strings (P.AirPath.sees below.old)) s.now (P.AirPath.strings (P.AirPath.sees below.new)) result }
+    ensures joins { Puts (Faded Added fate) (P.AirPath.strings (P.AirPath.sees below.old)) s.now (P.AirPath.strings (P.AirPath.sees below.new)) result }
     ensures exact { Puts (Faded P.AirPath.puts fate) (P.AirPath.sees below.old) s.now (P.AirPath.sees below.new) result }
 {
     match fate {

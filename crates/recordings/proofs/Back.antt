@@ -17,7 +17,7 @@ letter_apart Up Down e = absurd (omega arith)
 letter_apart Up Up e = refl
 
 -- a digit says its value
-digit_is : (x v : ℕ) → v < 16 → Digit x v → digit_value x ≡ v
+pub digit_is : (x v : ℕ) → v < 16 → Digit x v → digit_value x ≡ v
 digit_is x v small (inl e) = grind (arith, nat_tests)
 digit_is x v small (inr e) = grind (arith, nat_tests)
 

@@ -1,3 +1,4 @@
 pub mod Strings
 pub mod Splitting
 pub mod Back
+pub mod Unspelled

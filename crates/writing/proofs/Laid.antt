@@ -1,10 +1,15 @@
 -- The parts of a block laid one behind the other are its string. Assumes nothing.
-use Rattle.std.proofs.Common.{◌≡◌, ℕ, ◌-◌, ◌/◌, ◌%◌, ◌<◌, List, [], ◌∷◌, ◌++◌, map, length, get_or, take, drop, ap, ◌∙◌, append_assoc, arith}
+use Rattle.std.proofs.Common.{◌≡◌, ℕ, ◌-◌, ◌/◌, ◌%◌, ◌<◌, ◌≤◌, Bool, List, [], ◌∷◌, ◌++◌, map, length, get_or, take, drop, ap, ◌∙◌, append_assoc, arith, length-append}
 use Rattle.std.proofs.lemmas.List.{map-append, take_all}
 use Rattle.octets.specs.Check.{check, low, high}
-use Rattle.blocks.specs.Fields.{Head, headed, acknowledgment_character, enclosed}
+use Rattle.blocks.specs.Fields.{Head, headed, tailed, suffix, acknowledgment_character, enclosed}
 use Rattle.writing.specs.Laying.{laid_octet}
 use lib.Count.{ones}
+
+-- STX, a text and the suffix
+pub tail_length : (last : Bool) (text : List ℕ) → length text ≤ 220 → length (tailed last text) ≤ 222
+tail_length last [] h = omega arith
+tail_length last (u ∷ us) h = let z = length-append (u ∷ us) (suffix last ∷ []) in omega (arith, z)
 
 -- one more part
 pub on : (p : List ℕ) {s t q x : List ℕ} → t ≡ s ++ map laid_octet p → s ≡ x → p ≡ q → t ≡ x ++ map laid_octet q

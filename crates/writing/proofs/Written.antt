@@ -1,9 +1,10 @@
--- Sound fields are laid as the string that they write. Assumes nothing.
-use Rattle.std.proofs.Common.{◌≡◌, ℕ, suc, ◌<◌, map, length, sym, ap, ◌∙◌, mod-eq_of_lt, arith}
+-- Sound fields are laid as the string that they write, and their text is within its limit. Assumes nothing.
+use Rattle.std.proofs.Common.{◌≡◌, ℕ, suc, ◌+◌, ◌<◌, ◌≤◌, true, map, length, sym, ap, ◌∙◌, mod-eq_of_lt, arith}
 use Rattle.std.proofs.lemmas.List.{length-map, get_or-map, ext_get_or}
+use Rattle.std.proofs.lemmas.Bool.Decides.{nat_tests}
 use Rattle.octets.specs.Parity.{octet}
-use Rattle.blocks.specs.Fields.{Fields, laid, written, enclosed}
-use Rattle.blocks.specs.Legal.{Way, at, Sound}
+use Rattle.blocks.specs.Fields.{Fields, response, message, text_of, laid, written, enclosed}
+use Rattle.blocks.specs.Legal.{Way, at, Sound, text_length}
 use Rattle.blocks.proofs.Shapes.{Lawful}
 use Rattle.blocks.proofs.Layouts.{laid_out, chars_of, size_of}
 use Rattle.blocks.proofs.Unlike.{kept_seven}
@@ -21,3 +22,10 @@ module _ (w : Way) (l : Lawful w) where
       (λ i h.
       let u : i < length (laid f) = omega (arith, a) in
       get_or-map laid_octet (laid f) i 0 0 u ∙ ap octet (mod-eq_of_lt (laid_seven f s i u)) ∙ sym (get_or-map octet (laid f) i 0 0 u)))
+
+  pub limit_of : (f : Fields) → Sound w f → length (text_of f) ≤ 220
+  limit_of (response h) s = omega arith
+  limit_of (message h label last text) s =
+      let t : text_length w.text last (length text) ≡ true = s.text.0 in
+      let q : w.text.opening + w.text.room ≡ 220 = l.text.full in
+      grind (arith, nat_tests)

@@ -17,7 +17,7 @@ returns-in_err-address g c =
     let p = err_from_is_err_and c.from_residual.result c.from_residual.ensures.1 in
     let s = c.args.self.string.now in
     let k1 = mode (way g) s (search rules) in
-    rw (p.1, p.2) (broken_on (way g) s 1 2 _ (lit≤ tt) k1 (c.in_err-address.ensures (way g)))
+    rw (p.1, p.2) (broken_on (way g) s 1 2 9 13 _ (lit≤ tt) (lit≤ tt) k1 (c.in_err-address.ensures (way g)))
 
 pub returns-in_err-acknowledgment : goal.returns-in_err-acknowledgment
 returns-in_err-acknowledgment g c =
@@ -25,7 +25,7 @@ returns-in_err-acknowledgment g c =
     let s = c.args.self.string.now in
     let k1 = mode (way g) s (search rules) in
     let k9 = kept_on (way g) 17 s 1 2 9 k1 (c.in_ok-address.ensures (way g)).0 in
-    rw (p.1, p.2) (broken_on (way g) s 1 9 _ (lit≤ tt) k9 c.in_err-acknowledgment.ensures)
+    rw (p.1, p.2) (broken_on (way g) s 1 9 10 13 _ (lit≤ tt) (lit≤ tt) k9 c.in_err-acknowledgment.ensures)
 
 pub returns-in_err-label : goal.returns-in_err-label
 returns-in_err-label g c =
@@ -34,7 +34,7 @@ returns-in_err-label g c =
     let k1 = mode (way g) s (search rules) in
     let k9 = kept_on (way g) 17 s 1 2 9 k1 (c.in_ok-address.ensures (way g)).0 in
     let k10 = kept_on (way g) 17 s 1 9 10 k9 c.in_ok-acknowledgment.ensures.0 in
-    rw (p.1, p.2) (broken_on (way g) s 1 10 _ (lit≤ tt) k10 (c.in_err-label.ensures (way g)))
+    rw (p.1, p.2) (broken_on (way g) s 1 10 12 13 _ (lit≤ tt) (lit≤ tt) k10 (c.in_err-label.ensures (way g)))
 
 pub returns-in_err-identifier : goal.returns-in_err-identifier
 returns-in_err-identifier g c =
@@ -44,7 +44,7 @@ returns-in_err-identifier g c =
     let k9 = kept_on (way g) 17 s 1 2 9 k1 (c.in_ok-address.ensures (way g)).0 in
     let k10 = kept_on (way g) 17 s 1 9 10 k9 c.in_ok-acknowledgment.ensures.0 in
     let k12 = kept_on (way g) 17 s 1 10 12 k10 (c.in_ok-label.ensures (way g)).0 in
-    rw (p.1, p.2) (broken_on (way g) s 1 12 _ (lit≤ tt) k12 c.in_err-identifier.ensures)
+    rw (p.1, p.2) (broken_on (way g) s 1 12 13 13 _ (lit≤ tt) (lit≤ tt) k12 c.in_err-identifier.ensures)
 
 pub returns : goal.returns
 returns g c =
