@@ -6,7 +6,6 @@ ghost use Rattle.answers.specs.Printed.{escaped};
 ghost use Rattle.answers.specs.Room.{Adds};
 
 use crate::answer::AnswerLine;
-use arrayvec::ArrayVec;
 use itoa::{Buffer, Integer};
 use octets::character_of;
 
@@ -16,7 +15,8 @@ impl AnswerLine {
         ensures { result ≡ [] }
     {
         AnswerLine {
-            octets: ArrayVec::new(),
+            octets: [0; 512],
+            used: 0,
         }
     }
 
@@ -25,30 +25,32 @@ impl AnswerLine {
         ensures held { result.now ≡ self.now }
         ensures within { length result.now ≤ 512 }
     {
-        self.octets.as_slice()
+        &self.octets[0..self.used]
     }
 
     // Empties the line.
     pub(crate) fn clear(&mut self)
         ensures { self.new ≡ [] }
     {
-        self.octets.clear();
+        self.used = 0;
     }
 
     // Adds octets as they are.
     pub(crate) fn add(&mut self, part: &[u8])
         ensures { Adds self.old part.now self.new }
     {
-        let room = self.octets.remaining_capacity().min(part.len());
-        self.octets.try_extend_from_slice(&part[..room]).unwrap();
+        let room = (self.octets.len() - self.used).min(part.len());
+        self.octets[self.used..self.used + room].copy_from_slice(&part[..room]);
+        self.used += room;
     }
 
     // Adds one octet.
     fn add_octet(&mut self, octet: u8)
         ensures { Adds self.old (octet ∷ []) self.new }
     {
-        if self.octets.remaining_capacity() > 0 {
-            self.octets.push(octet);
+        if self.used < self.octets.len() {
+            self.octets[self.used] = octet;
+            self.used += 1;
         }
     }
 
